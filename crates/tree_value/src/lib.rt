@@ -1,0 +1,16 @@
+//! The values that a build works on: bytes, texts, paths and digests, trees of files, and the results
+//! of tasks. It stands on no other crate of this repository. The layers above see each of these types
+//! as the list or the value that it holds, and take from here the definitions of a path and a tree.
+#![tactic(auto)]
+
+mod bytes;
+mod digest;
+mod fault;
+mod path;
+mod text;
+
+pub use bytes::Bytes;
+pub use digest::Digest;
+pub use fault::CopyFault;
+pub use path::{Path, PathFault};
+pub use text::{Text, TextFault};

@@ -1,0 +1,119 @@
+ghost use Rattle.std.specs.Prelude.{◌≡◌, ◌↔◌, length, IfOk, IsErrOf, IsTrue};
+ghost use Rattle.std.specs.Ordering.{nat_cmp};
+ghost use Rattle.std.specs.Cmp.Lexicographic.{slice_cmp};
+ghost use Rattle.tree_value.specs.Paths.{IsPath, IsSegment};
+ghost use Rattle.tree_value.specs.declared.path.PathFault.TheVariants.{Memory};
+
+use crate::fault::CopyFault;
+use std::alloc::{AllocError, AllocFailed, Global};
+use std::cmp::Ordering;
+use std::marker::Model;
+use thiserror::Error;
+
+/// The most bytes of a path.
+pub const MAX_PATH_LEN: usize = 1024;
+
+/// The most bytes of one segment of a path.
+pub const MAX_SEGMENT_LEN: usize = 200;
+
+/// The place of a file in a tree: segments joined by `/`. The empty path stands for the whole tree.
+#[derive(Debug, Drop)]
+pub struct Path {
+    bytes: Vec<u8>,
+}
+
+impl Model for Path {
+    ghost use Rattle.std.specs.Prelude.{ℕ, List};
+    ghost use Rattle.tree_value.specs.Paths.{IsPath};
+
+    ghost Value = { List ℕ };
+
+    ghost view = { λ path. path.bytes.items };
+
+    ghost invariant = { λ path. IsPath path.bytes.items };
+}
+
+/// Why bytes are no path.
+#[derive(Debug, Drop, PartialEq, Eq, Error)]
+pub enum PathFault {
+    #[error("the bytes are not a path")]
+    BadPath,
+    #[error("out of memory")]
+    Memory,
+}
+
+impl From<AllocError> for PathFault {
+    ghost from_gives = { λ _ fault. fault ≡ Memory };
+
+    fn from(_error: AllocError) -> PathFault {
+        PathFault::Memory
+    }
+}
+
+impl<T: Drop> From<AllocFailed<T>> for PathFault {
+    ghost from_gives = { λ _ fault. fault ≡ Memory };
+
+    fn from(_error: AllocFailed<T>) -> PathFault {
+        PathFault::Memory
+    }
+}
+
+fn is_segment(bytes: &[u8]) -> bool
+    ensures { IsTrue result ↔ IsSegment bytes.now }
+{
+    !bytes.is_empty()
+        && bytes.len() <= MAX_SEGMENT_LEN
+        && bytes != b".".as_slice()
+        && bytes != b"..".as_slice()
+        && !bytes.contains(&0)
+        && str::from_utf8(bytes).is_ok()
+}
+
+fn is_path(bytes: &[u8]) -> bool
+    ensures { IsTrue result ↔ IsPath bytes.now }
+{
+    bytes.is_empty()
+        || bytes.len() <= MAX_PATH_LEN && bytes.split(|byte| *byte == b'/').all(is_segment)
+}
+
+impl Path {
+    pub fn of(alloc: Global, bytes: &[u8]) -> Result<Path, PathFault>
+        ensures ok { IfOk result (λ path. (path ≡ bytes.now) × IsPath bytes.now) }
+        ensures bad_path { IsErrOf result PathFault.BadPath → ¬ (IsPath bytes.now) }
+    {
+        if !is_path(bytes) {
+            return Err(PathFault::BadPath);
+        }
+        Ok(Path {
+            bytes: Vec::from_slice(alloc, bytes)?,
+        })
+    }
+
+    pub fn as_slice(&self) -> &[u8]
+        ensures bytes { result.now ≡ self.now }
+        ensures path { IsPath self.now }
+    {
+        self.bytes.as_slice()
+    }
+
+    pub fn len(&self) -> usize
+        ensures { result ≡ length self.now }
+    {
+        self.bytes.len()
+    }
+
+    /// Compares in the order of the bytes.
+    pub fn cmp(&self, other: &Path) -> Ordering
+        ensures { result ≡ slice_cmp nat_cmp self.now other.now }
+    {
+        self.bytes.as_slice().cmp(other.bytes.as_slice())
+    }
+
+    pub fn copy(&self) -> Result<Path, CopyFault>
+        ensures { IfOk result (λ copy. copy ≡ self.now) }
+    {
+        Ok(Path {
+            bytes: self.bytes.clone()?,
+        })
+    }
+}
