@@ -1,2 +1,5 @@
+pub mod formers
 pub mod Paths
 pub mod Digests
+pub mod Nets
+pub mod Trees

@@ -1,6 +1,7 @@
 ghost use Rattle.std.specs.Prelude.{◌≡◌, ◌↔◌, length, [], IfOk, IsTrue};
 
 use crate::fault::CopyFault;
+use crate::sequence::TryCopy;
 use std::alloc::{AllocError, Global};
 use std::marker::Model;
 
@@ -64,5 +65,11 @@ impl Bytes {
         Ok(Bytes {
             items: self.items.clone()?,
         })
+    }
+}
+
+impl TryCopy for Bytes {
+    fn try_copy(&self) -> Result<Bytes, CopyFault> {
+        self.copy()
     }
 }

@@ -2,6 +2,7 @@ ghost use Rattle.std.specs.Prelude.{◌≡◌, length, IsOkAnd};
 ghost use Rattle.tree_value.specs.Digests.{IsDigest};
 
 use crate::fault::CopyFault;
+use crate::sequence::TryCopy;
 use std::marker::Model;
 
 /// A SHA-256 digest (FIPS 180-4).
@@ -57,5 +58,11 @@ impl Digest {
         ensures { IsOkAnd result (λ copy. copy ≡ self.now) }
     {
         Ok(*self)
+    }
+}
+
+impl TryCopy for Digest {
+    fn try_copy(&self) -> Result<Digest, CopyFault> {
+        self.copy()
     }
 }

@@ -7,10 +7,31 @@ mod bytes;
 mod digest;
 mod fault;
 mod path;
+mod sequence;
 mod text;
+mod tree;
+mod value;
 
 pub use bytes::Bytes;
 pub use digest::Digest;
 pub use fault::CopyFault;
 pub use path::{Path, PathFault};
+pub use sequence::{Sequence, TryCopy};
 pub use text::{Text, TextFault};
+pub use tree::{Tree, TreeFault};
+pub use value::{PathRef, Value, ValueType};
+
+/// Lines of text.
+pub type Lines = Sequence<Text>;
+
+/// Paths of files.
+pub type Paths = Sequence<Path>;
+
+/// Paths of files, each with the digest of its bytes.
+pub type FileDigests = Sequence<(Path, Digest)>;
+
+/// The items of a list.
+pub type Values = Sequence<Value>;
+
+/// Names of variables, each with its content.
+pub type Vars = Sequence<(Text, Text)>;

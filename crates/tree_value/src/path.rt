@@ -1,10 +1,13 @@
 ghost use Rattle.std.specs.Prelude.{◌≡◌, ◌↔◌, length, IfOk, IsErrOf, IsTrue};
 ghost use Rattle.std.specs.Ordering.{nat_cmp};
 ghost use Rattle.std.specs.Cmp.Lexicographic.{slice_cmp};
+ghost use Rattle.std.specs.Option.{option_copied};
 ghost use Rattle.tree_value.specs.Paths.{IsPath, IsSegment};
+ghost use Rattle.tree_value.specs.Trees.{path_below};
 ghost use Rattle.tree_value.specs.declared.path.PathFault.TheVariants.{Memory};
 
 use crate::fault::CopyFault;
+use crate::sequence::TryCopy;
 use std::alloc::{AllocError, AllocFailed, Global};
 use std::cmp::Ordering;
 use std::marker::Model;
@@ -76,6 +79,21 @@ fn is_path(bytes: &[u8]) -> bool
         || bytes.len() <= MAX_PATH_LEN && bytes.split(|byte| *byte == b'/').all(is_segment)
 }
 
+// The part of `path` below `top`, if it lies there.
+fn part_below<'a>(path: &'a [u8], top: &[u8]) -> Option<&'a [u8]>
+    ensures { option_copied result ≡ path_below top.now path.now }
+{
+    if top.is_empty() {
+        return Some(path);
+    }
+    let rest = path.strip_prefix(top)?;
+    match rest {
+        [] => Some(rest),
+        [b'/', below @ ..] => Some(below),
+        _ => None,
+    }
+}
+
 impl Path {
     pub fn of(alloc: Global, bytes: &[u8]) -> Result<Path, PathFault>
         ensures ok { IfOk result (λ path. (path ≡ bytes.now) × IsPath bytes.now) }
@@ -109,11 +127,29 @@ impl Path {
         self.bytes.as_slice().cmp(other.bytes.as_slice())
     }
 
+    /// The path as seen from `top`, if it is `top` or lies below it. Everything lies below the empty path.
+    pub fn below(&self, top: &Path) -> Result<Option<Path>, CopyFault>
+        ensures { IfOk result (λ below. below ≡ path_below top.now self.now) }
+    {
+        match part_below(self.bytes.as_slice(), top.bytes.as_slice()) {
+            Some(below) => Ok(Some(Path {
+                bytes: Vec::from_slice(*self.bytes.allocator(), below)?,
+            })),
+            None => Ok(None),
+        }
+    }
+
     pub fn copy(&self) -> Result<Path, CopyFault>
         ensures { IfOk result (λ copy. copy ≡ self.now) }
     {
         Ok(Path {
             bytes: self.bytes.clone()?,
         })
+    }
+}
+
+impl TryCopy for Path {
+    fn try_copy(&self) -> Result<Path, CopyFault> {
+        self.copy()
     }
 }

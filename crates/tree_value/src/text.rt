@@ -4,6 +4,7 @@ ghost use Rattle.std.specs.Cmp.Lexicographic.{slice_cmp};
 ghost use Rattle.tree_value.specs.declared.text.TextFault.TheVariants.{Memory};
 
 use crate::fault::CopyFault;
+use crate::sequence::TryCopy;
 use std::alloc::{AllocError, AllocFailed, Global};
 use std::cmp::Ordering;
 use std::marker::Model;
@@ -89,5 +90,11 @@ impl Text {
         Ok(Text {
             bytes: self.bytes.clone()?,
         })
+    }
+}
+
+impl TryCopy for Text {
+    fn try_copy(&self) -> Result<Text, CopyFault> {
+        self.copy()
     }
 }
