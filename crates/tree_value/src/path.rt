@@ -87,11 +87,10 @@ fn part_below<'a>(path: &'a [u8], top: &[u8]) -> Option<&'a [u8]>
         return Some(path);
     }
     let rest = path.strip_prefix(top)?;
-    match rest {
-        [] => Some(rest),
-        [b'/', below @ ..] => Some(below),
-        _ => None,
+    if rest.is_empty() {
+        return Some(rest);
     }
+    rest.strip_prefix(b"/".as_slice())
 }
 
 impl Path {
