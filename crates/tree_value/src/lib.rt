@@ -6,6 +6,7 @@
 mod bytes;
 mod digest;
 mod fault;
+mod order;
 mod path;
 mod sequence;
 mod text;

@@ -1,6 +1,4 @@
 ghost use Rattle.std.specs.Prelude.{◌≡◌, ◌↔◌, length, IfOk, IsErrOf, IsTrue};
-ghost use Rattle.std.specs.Ordering.{nat_cmp};
-ghost use Rattle.std.specs.Cmp.Lexicographic.{slice_cmp};
 ghost use Rattle.std.specs.Option.{option_copied};
 ghost use Rattle.tree_value.specs.Paths.{IsPath, IsSegment};
 ghost use Rattle.tree_value.specs.Trees.{path_below};
@@ -9,7 +7,6 @@ ghost use Rattle.tree_value.specs.declared.path.PathFault.TheVariants.{Memory};
 use crate::fault::CopyFault;
 use crate::sequence::TryCopy;
 use std::alloc::{AllocError, AllocFailed, Global};
-use std::cmp::Ordering;
 use std::marker::Model;
 use thiserror::Error;
 
@@ -117,13 +114,6 @@ impl Path {
         ensures { result ≡ length self.now }
     {
         self.bytes.len()
-    }
-
-    /// Compares in the order of the bytes.
-    pub fn cmp(&self, other: &Path) -> Ordering
-        ensures { result ≡ slice_cmp nat_cmp self.now other.now }
-    {
-        self.bytes.as_slice().cmp(other.bytes.as_slice())
     }
 
     /// The path as seen from `top`, if it is `top` or lies below it. Everything lies below the empty path.

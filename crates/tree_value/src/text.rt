@@ -1,12 +1,9 @@
 ghost use Rattle.std.specs.Prelude.{◌≡◌, length, IfOk, IsErrOf, IsUtf8};
-ghost use Rattle.std.specs.Ordering.{nat_cmp};
-ghost use Rattle.std.specs.Cmp.Lexicographic.{slice_cmp};
 ghost use Rattle.tree_value.specs.declared.text.TextFault.TheVariants.{Memory};
 
 use crate::fault::CopyFault;
 use crate::sequence::TryCopy;
 use std::alloc::{AllocError, AllocFailed, Global};
-use std::cmp::Ordering;
 use std::marker::Model;
 use thiserror::Error;
 
@@ -75,13 +72,6 @@ impl Text {
         ensures { result ≡ length self.now }
     {
         self.bytes.len()
-    }
-
-    /// Compares in the order of the bytes, which for UTF-8 is that of the code points.
-    pub fn cmp(&self, other: &Text) -> Ordering
-        ensures { result ≡ slice_cmp nat_cmp self.now other.now }
-    {
-        self.bytes.as_slice().cmp(other.bytes.as_slice())
     }
 
     pub fn copy(&self) -> Result<Text, CopyFault>
