@@ -3,3 +3,4 @@ pub mod Paths
 pub mod Digests
 pub mod Nets
 pub mod Trees
+pub mod Values

@@ -19,7 +19,7 @@ pub enum ValueType {
 
 /// A reference to a tree: who made it, where it lies there, and its digest. The workspace's own files
 /// have the empty text as owner.
-#[derive(Debug, Drop)]
+#[derive(Debug, Drop, PartialEq, Eq)]
 pub struct PathRef {
     pub owner: Text,
     pub path: Path,
@@ -76,6 +76,12 @@ fn copy_values(values: &Sequence<Value>) -> Result<Sequence<Value>, CopyFault>
         copies.push(value.copy()?)?;
     }
     Ok(Sequence::from_vec(copies))
+}
+
+impl TryCopy for PathRef {
+    fn try_copy(&self) -> Result<PathRef, CopyFault> {
+        self.copy()
+    }
 }
 
 impl TryCopy for Value {
