@@ -1,2 +1,5 @@
 pub mod Rising
 pub mod Below
+pub mod NetLemmas
+pub mod DigestLemmas
+pub mod TreeLemmas

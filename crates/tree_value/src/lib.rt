@@ -9,6 +9,8 @@ mod fault;
 mod order;
 mod path;
 mod sequence;
+#[cfg(test)]
+mod tests;
 mod text;
 mod tree;
 mod value;
