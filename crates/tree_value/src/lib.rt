@@ -6,6 +6,7 @@
 mod bytes;
 mod digest;
 mod fault;
+mod lists;
 mod order;
 mod path;
 mod sequence;
@@ -18,23 +19,9 @@ mod value;
 pub use bytes::Bytes;
 pub use digest::Digest;
 pub use fault::CopyFault;
+pub use lists::{FileDigests, Lines, Paths, Vars};
 pub use path::{Path, PathFault};
 pub use sequence::{Sequence, TryCopy};
 pub use text::{Text, TextFault};
 pub use tree::{Tree, TreeFault};
-pub use value::{PathRef, Value, ValueType};
-
-/// Lines of text.
-pub type Lines = Sequence<Text>;
-
-/// Paths of files.
-pub type Paths = Sequence<Path>;
-
-/// Paths of files, each with the digest of its bytes.
-pub type FileDigests = Sequence<(Path, Digest)>;
-
-/// The items of a list.
-pub type Values = Sequence<Value>;
-
-/// Names of variables, each with its content.
-pub type Vars = Sequence<(Text, Text)>;
+pub use value::{PathRef, Value, ValueType, Values};

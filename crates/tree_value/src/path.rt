@@ -1,4 +1,4 @@
-ghost use Rattle.std.specs.Prelude.{◌≡◌, ◌↔◌, length, IfOk, IsErrOf, IsTrue};
+ghost use Rattle.std.specs.Prelude.{◌≡◌, ◌↔◌, length, IfOk, IsErrOf, IsTrue, []};
 ghost use Rattle.std.specs.Option.{option_copied};
 ghost use Rattle.tree_value.specs.Paths.{IsPath, IsSegment};
 ghost use Rattle.tree_value.specs.Trees.{path_below};
@@ -108,6 +108,20 @@ impl Path {
         ensures path { IsPath self.now }
     {
         self.bytes.as_slice()
+    }
+
+    pub fn into_vec(self) -> Vec<u8>
+        ensures bytes { result.items ≡ self }
+        ensures path { IsPath self }
+    {
+        let Path { bytes } = self;
+        bytes
+    }
+
+    pub fn is_empty(&self) -> bool
+        ensures { IsTrue result ↔ (self.now ≡ []) }
+    {
+        self.bytes.is_empty()
     }
 
     pub fn len(&self) -> usize

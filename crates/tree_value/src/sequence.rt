@@ -75,7 +75,7 @@ impl<T> Sequence<T> {
     }
 
     /// The allocator that the items were made with.
-    pub fn allocator(&self) -> Global {
+    pub(crate) fn allocator(&self) -> Global {
         *self.items.allocator()
     }
 }

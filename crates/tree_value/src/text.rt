@@ -1,4 +1,4 @@
-ghost use Rattle.std.specs.Prelude.{◌≡◌, length, IfOk, IsErrOf, IsUtf8};
+ghost use Rattle.std.specs.Prelude.{◌≡◌, length, IfOk, IsErrOf, IsUtf8, ◌↔◌, [], IsTrue};
 ghost use Rattle.tree_value.specs.declared.text.TextFault.TheVariants.{Memory};
 
 use crate::fault::CopyFault;
@@ -66,6 +66,20 @@ impl Text {
         ensures text { IsUtf8 self.now }
     {
         self.bytes.as_slice()
+    }
+
+    pub fn into_vec(self) -> Vec<u8>
+        ensures bytes { result.items ≡ self }
+        ensures text { IsUtf8 self }
+    {
+        let Text { bytes } = self;
+        bytes
+    }
+
+    pub fn is_empty(&self) -> bool
+        ensures { IsTrue result ↔ (self.now ≡ []) }
+    {
+        self.bytes.is_empty()
     }
 
     pub fn len(&self) -> usize

@@ -46,9 +46,12 @@ pub enum Value {
     Int(i32),
     Long(i64),
     Text(Text),
-    List(Sequence<Value>),
+    List(Values),
     Ref(PathRef),
 }
+
+/// The items of a list.
+pub type Values = Sequence<Value>;
 
 impl Value {
     #[cycle(copy)]
@@ -68,14 +71,14 @@ impl Value {
 }
 
 #[cycle(copy)]
-fn copy_values(values: &Sequence<Value>) -> Result<Sequence<Value>, CopyFault>
+fn copy_values(values: &Values) -> Result<Values, CopyFault>
     ensures { IfOk result (λ copy. copy ≡ values.now) }
 {
     let mut copies = Vec::with_capacity(values.allocator(), values.len())?;
     for value in values.as_slice() {
         copies.push(value.copy()?)?;
     }
-    Ok(Sequence::from_vec(copies))
+    Ok(Values::from_vec(copies))
 }
 
 impl TryCopy for PathRef {
