@@ -152,3 +152,8 @@ paths_below top (f ∷ files) paths =
 -- the files of a tree below a path are a tree
 pub IsTree-files_below : (top : List ℕ) (files : List (List ℕ × List ℕ)) → IsTree files → IsTree (files_below top files)
 IsTree-files_below top files tree = record { paths = paths_below top files tree.paths; rising = rising_below top files tree.paths tree.rising }
+
+-- below the empty path lies the whole tree
+pub files_below-nothing : (files : List (List ℕ × List ℕ)) → files_below [] files ≡ files
+files_below-nothing [] = refl
+files_below-nothing (f ∷ files) = ap (λ more. f ∷ more) (files_below-nothing files)

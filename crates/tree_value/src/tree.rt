@@ -123,6 +123,7 @@ impl Tree {
     /// The files below `path`, as seen from there.
     pub fn sub(&self, path: &Path) -> Result<Tree, TreeFault>
         ensures ok { IfOk result (λ sub. sub ≡ files_below path.now self.now) }
+        ensures whole { path.now ≡ [] → IfOk result (λ sub. sub ≡ self.now) }
         ensures only_memory { IsOkUnless result TreeFault.Memory }
     {
         let mut files = Vec::new(self.files.allocator());
