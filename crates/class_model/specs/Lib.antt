@@ -1,0 +1,9 @@
+pub mod ModifiedUtf8
+pub mod ClassNames
+pub mod Descriptors
+pub mod Constants
+pub mod Layers
+pub mod Spelling
+pub mod Annotations
+pub mod Attributes
+pub mod Shape

@@ -1,0 +1,37 @@
+//! The class file and its members (JVMS 4.1, 4.5 and 4.6).
+
+use sqlite_items::Items;
+
+use crate::attribute_forms::Attributes;
+use crate::constant_pool::Pool;
+
+/// Indices into a pool.
+pub type Indices = Items<u16>;
+
+/// The fields or the methods of a class, in file order.
+pub type Members = Items<Member>;
+
+/// A class or interface, as its file has it.
+#[derive(Debug, Drop)]
+pub struct Class {
+    pub minor: u16,
+    pub major: u16,
+    pub pool: Pool,
+    pub flags: u16,
+    pub this_class: u16,
+    /// 0 where there is none.
+    pub super_class: u16,
+    pub interfaces: Indices,
+    pub fields: Members,
+    pub methods: Members,
+    pub attributes: Attributes,
+}
+
+/// A field or a method.
+#[derive(Debug, Drop)]
+pub struct Member {
+    pub flags: u16,
+    pub name: u16,
+    pub descriptor: u16,
+    pub attributes: Attributes,
+}

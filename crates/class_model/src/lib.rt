@@ -1,0 +1,20 @@
+//! The data of a class file as JVMS chapter 4 lays it out, without loss; the names that classes and members have;
+//! and programs, which are lists of classes with distinct names. It stands on no crate of `mill`. The layers above
+//! rest on `Shaped`, which says of a class alone that it has a text, and on `Program`, whose classes are shaped.
+#![tactic(auto)]
+
+mod annotation;
+mod attribute_forms;
+mod class_file;
+mod constant_pool;
+mod identifiers;
+mod name_text;
+mod stack_map;
+
+pub use annotation::{Element, Elements, Note, Notes, Pair, Pairs};
+pub use attribute_forms::{Attribute, Attributes, Bootstrap, Bootstraps, Handler, Handlers};
+pub use class_file::{Class, Indices, Member, Members};
+pub use constant_pool::{Constant, Constants, Pool, Raw};
+pub use identifiers::{CallKind, CallRef, ClassId, MemberId, MemberRef, MethodId, SiteId};
+pub use name_text::{CopyFault, Name, NameFault};
+pub use stack_map::{FrameType, FrameTypes, StackFrame, StackFrames};
