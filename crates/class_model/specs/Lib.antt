@@ -1,4 +1,5 @@
 pub mod ModifiedUtf8
+pub mod Units
 pub mod ClassNames
 pub mod Descriptors
 pub mod Constants

@@ -8,6 +8,7 @@ mod attribute_forms;
 mod class_file;
 mod constant_pool;
 mod identifiers;
+mod modified_utf8;
 mod name_text;
 mod stack_map;
 
@@ -16,5 +17,6 @@ pub use attribute_forms::{Attribute, Attributes, Bootstrap, Bootstraps, Handler,
 pub use class_file::{Class, Indices, Member, Members};
 pub use constant_pool::{Constant, Constants, Pool, Raw};
 pub use identifiers::{CallKind, CallRef, ClassId, MemberId, MemberRef, MethodId, SiteId};
+pub use modified_utf8::is_modified_utf8;
 pub use name_text::{CopyFault, Name, NameFault};
 pub use stack_map::{FrameType, FrameTypes, StackFrame, StackFrames};

@@ -1,10 +1,15 @@
 //! Names.
 
-ghost use Rattle.std.specs.Prelude.{◌≡◌, length};
+ghost use Rattle.std.specs.Prelude.{◌≡◌, ◌↔◌, IsTrue, IfOk, OnOk, IsErrOf, IsOkUnless, length};
+ghost use Rattle.class_model.specs.ModifiedUtf8.{IsName};
+ghost use Rattle.class_model.specs.declared.name_text.NameFault.TheVariants as name_fault;
+ghost use Rattle.class_model.specs.declared.name_text.CopyFault.TheVariants as copy_fault;
 
-use std::alloc::{AllocError, AllocFailed};
+use std::alloc::{AllocError, Global};
 use std::marker::Model;
 use thiserror::Error;
+
+use crate::modified_utf8::is_modified_utf8;
 
 /// The name of a class, field or method, or a descriptor: 1 to 65,535 bytes of modified UTF-8.
 #[derive(Debug, Drop)]
@@ -14,30 +19,86 @@ pub struct Name {
 
 impl Model for Name {
     ghost use Rattle.std.specs.Prelude.{List, ℕ};
+    ghost use Rattle.class_model.specs.ModifiedUtf8.{IsName};
 
     ghost Value = { List ℕ };
 
     ghost view = { λ n. n.bytes.items };
+
+    ghost invariant = { λ n. ∥ IsName n.bytes.items ∥₁ };
 }
 
-impl Name {
-    pub fn as_slice(&self) -> &[u8]
-        ensures value { result.now ≡ self.now }
-    {
-        self.bytes.as_slice()
-    }
-}
-
-#[derive(Debug, Drop, Error)]
+/// Why bytes are no name.
+#[derive(Clone, Copy, Debug, PartialEq, Eq, Error)]
 pub enum NameFault {
+    /// They are empty, longer than 65,535 or not modified UTF-8.
     #[error("not a name")]
     BadName,
     #[error("out of memory")]
     Memory,
 }
 
-#[derive(Debug, Drop, Error)]
+/// Why a value wasn't copied.
+#[derive(Clone, Copy, Debug, PartialEq, Eq, Error)]
 pub enum CopyFault {
     #[error("out of memory")]
     Memory,
+}
+
+impl From<AllocError> for NameFault {
+    ghost from_gives = { λ _ e. e ≡ name_fault.Memory };
+
+    fn from(_e: AllocError) -> NameFault {
+        NameFault::Memory
+    }
+}
+
+impl From<AllocError> for CopyFault {
+    ghost from_gives = { λ _ e. e ≡ copy_fault.Memory };
+
+    fn from(_e: AllocError) -> CopyFault {
+        CopyFault::Memory
+    }
+}
+
+fn is_name(bytes: &[u8]) -> bool
+    ensures { IsTrue result ↔ IsName bytes.now }
+{
+    if bytes.is_empty() {
+        return false;
+    }
+    if bytes.len() > 65535 {
+        return false;
+    }
+    is_modified_utf8(bytes)
+}
+
+impl Name {
+    /// The name with these bytes. `BadName` comes before any memory is asked for.
+    pub fn of(alloc: Global, bytes: &[u8]) -> Result<Name, NameFault>
+        ensures ok { IfOk result (λ name. name ≡ bytes.now) }
+        ensures bad { IsErrOf result NameFault.BadName ↔ (IsName bytes.now → ⊥) }
+    {
+        if !is_name(bytes) {
+            return Err(NameFault::BadName);
+        }
+        let bytes = Vec::from_slice(alloc, bytes)?;
+        Ok(Name { bytes })
+    }
+
+    /// An equal name.
+    pub fn copy(&self) -> Result<Name, CopyFault>
+        ensures { IfOk result (λ name. name ≡ self.now) }
+    {
+        let bytes = self.bytes.clone()?;
+        Ok(Name { bytes })
+    }
+
+    /// Its bytes, which are not empty.
+    pub fn as_slice(&self) -> &[u8]
+        ensures value { result.now ≡ self.now }
+        ensures name { ∥ IsName self.now ∥₁ }
+    {
+        self.bytes.as_slice()
+    }
 }
