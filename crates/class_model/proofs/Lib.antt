@@ -1,2 +1,3 @@
 pub mod UnitLemmas
 pub mod TextLemmas
+pub mod NameOfClass

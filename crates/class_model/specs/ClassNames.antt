@@ -1,6 +1,6 @@
 -- Names of classes, fields and methods (JVMS 4.2).
 use Rattle.std.specs.Prelude.{◌≡◌, ℕ, Bool, true, false, not, ◌&&◌, ◌||◌, ◌==◌, List, [], ◌∷◌, codes, bytes_eq, if◌then◌else◌}
-use Rattle.std.specs.List.{list_all, list_any}
+use Rattle.std.specs.List.{list_all, list_any, slice_split}
 use Rattle.std.specs.Str.{byte}
 
 -- an unqualified name has none of . ; [ and / (JVMS 4.2.2)
@@ -20,16 +20,6 @@ is_method_name name =
     bytes_eq name (codes "<init>") || bytes_eq name (codes "<clinit>")
     || is_unqualified name && not (list_any (λ b. b == byte "<" || b == byte ">") name)
 
--- the parts of a text round a separator; one without it is its own one part
-abbrev pub grow : ℕ → List (List ℕ) → List (List ℕ)
-grow b [] = (b ∷ []) ∷ []
-grow b (part ∷ parts) = (b ∷ part) ∷ parts
-
-unfoldable pub parts : ℕ → List ℕ → List (List ℕ)
-parts separator [] = [] ∷ []
-parts separator (b ∷ bytes) =
-    if b == separator then [] ∷ parts separator bytes else grow b (parts separator bytes)
-
 -- the binary name of a class or interface in its internal form (JVMS 4.2.1): unqualified names with / between them
 unfoldable pub is_class_name : List ℕ → Bool
-is_class_name name = list_all is_unqualified (parts (byte "/") name)
+is_class_name name = list_all is_unqualified (slice_split (λ b. b == byte "/") name)

@@ -8,3 +8,4 @@ pub mod Spelling
 pub mod Annotations
 pub mod Attributes
 pub mod Shape
+pub mod Programs

@@ -1,5 +1,7 @@
 //! The class file and its members (JVMS 4.1, 4.5 and 4.6).
 
+ghost use Rattle.std.specs.Prelude.{◌≡◌};
+
 use sqlite_items::Items;
 
 use crate::attribute_forms::Attributes;
@@ -34,4 +36,19 @@ pub struct Member {
     pub name: u16,
     pub descriptor: u16,
     pub attributes: Attributes,
+}
+
+impl Class {
+    ghost use Rattle.class_model.specs.Shape.{class_name};
+
+    /// The name of the class: the text of its this_class constant, and empty where there is none.
+    #[tactic(auto, unfolding(crate::specs::Shape::class_name))]
+    pub fn name(&self) -> &[u8]
+        ensures { result.now ≡ class_name self.now }
+    {
+        match self.pool.class_name(self.this_class) {
+            Some(text) => text,
+            None => &[],
+        }
+    }
 }

@@ -1,5 +1,7 @@
 //! The constant pool (JVMS 4.4).
 
+ghost use Rattle.std.specs.Prelude.{◌≡◌, option_copied};
+
 use sqlite_items::Items;
 
 /// A list of bytes.
@@ -43,4 +45,40 @@ pub enum Constant {
     InvokeDynamic { bootstrap: u16, name_type: u16 },
     /// The second number of the Long or Double before it. It has no text.
     Second,
+}
+
+impl Pool {
+    ghost use Rattle.class_model.specs.Constants.{constant_at, text_at, class_at};
+
+    /// The constant of a number, which is from 1.
+    pub fn constant(&self, number: u16) -> Option<&Constant>
+        ensures { option_copied result ≡ constant_at self.now number }
+    {
+        if number == 0 {
+            return None;
+        }
+        self.constants.get(usize::from(number) - 1)
+    }
+
+    /// The text of the Utf8 constant of a number.
+    #[tactic(auto, unfolding(crate::specs::Constants::text_at))]
+    pub fn text(&self, number: u16) -> Option<&[u8]>
+        ensures { option_copied result ≡ text_at self.now number }
+    {
+        match self.constant(number) {
+            Some(Constant::Utf8(bytes)) => Some(bytes.as_slice()),
+            _ => None,
+        }
+    }
+
+    /// The name of the Class constant of a number, for an array class its descriptor.
+    #[tactic(auto, unfolding(crate::specs::Constants::class_at))]
+    pub fn class_name(&self, number: u16) -> Option<&[u8]>
+        ensures { option_copied result ≡ class_at self.now number }
+    {
+        match self.constant(number) {
+            Some(Constant::Class(name)) => self.text(*name),
+            _ => None,
+        }
+    }
 }

@@ -10,6 +10,7 @@ mod constant_pool;
 mod identifiers;
 mod modified_utf8;
 mod name_text;
+mod program_list;
 mod stack_map;
 
 pub use annotation::{Element, Elements, Note, Notes, Pair, Pairs};
@@ -19,4 +20,5 @@ pub use constant_pool::{Constant, Constants, Pool, Raw};
 pub use identifiers::{CallKind, CallRef, ClassId, MemberId, MemberRef, MethodId, SiteId};
 pub use modified_utf8::is_modified_utf8;
 pub use name_text::{CopyFault, Name, NameFault};
+pub use program_list::{Program, ProgramFault};
 pub use stack_map::{FrameType, FrameTypes, StackFrame, StackFrames};
