@@ -1,3 +1,4 @@
 pub mod UnitLemmas
 pub mod TextLemmas
 pub mod NameOfClass
+pub mod ProgramLemmas

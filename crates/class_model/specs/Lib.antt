@@ -9,3 +9,4 @@ pub mod Annotations
 pub mod Attributes
 pub mod Shape
 pub mod Programs
+pub mod ProgramFaults

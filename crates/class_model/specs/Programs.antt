@@ -1,5 +1,5 @@
 -- Lists of classes by their names.
-use Rattle.std.specs.Prelude.{ℕ, ◌<◌, ◌≤◌, ◌≡◌, false, Some, None, take, slice_index_or, List, Option, All, count_by, find, bytes_eq}
+use Rattle.std.specs.Prelude.{ℕ, ◌<◌, ◌≤◌, ◌≡◌, ◌⊎◌, false, Some, None, take, slice_index_or, List, Option, All, count_by, find, bytes_eq}
 use Rattle.std.specs.Cmp.Lexicographic.{slice_cmp}
 use Rattle.std.specs.Ordering.{nat_cmp, is_gt}
 use Rattle.class_model.specs.declared.class_file.Class.{Class}
@@ -26,11 +26,14 @@ pub record IsProgram (classes : List Class) : Type 0 where
   pub shaped : All Shaped classes
   pub distinct : HasDistinctNames classes
 
+abbrev pub name_at : List Class → ℕ → Class → List ℕ
+name_at classes at d = class_name (slice_index_or classes at d)
+
 -- what an index of names finds among the first n classes: a place of the name, or nothing where no class has it
 abbrev pub FoundAmong : List Class → ℕ → List ℕ → Option ℕ → Type 0
 FoundAmong classes n name None = count_named name (take n classes) ≡ 0
 FoundAmong classes n name (Some at) =
-    (at < n) × (0 < count_named name (take n classes)) × ((d : Class) → class_name (slice_index_or classes at d) ≡ name)
+    (at < n) × (0 < count_named name (take n classes)) × ((d : Class) → name_at classes at d ≡ name)
 
 -- `find` finds each name among the first n classes
 abbrev pub IsIndexOf : List Class → ℕ → (List ℕ → Option ℕ) → Type 0
@@ -40,4 +43,10 @@ IsIndexOf classes n find = (name : List ℕ) → FoundAmong classes n name (find
 abbrev pub LeastAmong : List Class → ℕ → Option ℕ → Type 0
 LeastAmong classes n None = HasDistinctNames (take n classes)
 LeastAmong classes n (Some at) =
-    (at < n) × ((d : Class) → IsLeastDouble (class_name (slice_index_or classes at d)) (take n classes))
+    (at < n) × ((d : Class) → IsLeastDouble (name_at classes at d) (take n classes))
+
+-- of two places the one with the lesser name
+pub record IsLesser (classes : List Class) (one other found : ℕ) : Type 0 where
+  pub among : (found ≡ one) ⊎ (found ≡ other)
+  pub below_one : (d : Class) → is_gt (slice_cmp nat_cmp (name_at classes found d) (name_at classes one d)) ≡ false
+  pub below_other : (d : Class) → is_gt (slice_cmp nat_cmp (name_at classes found d) (name_at classes other d)) ≡ false
