@@ -6,6 +6,7 @@
 mod annotation;
 mod attribute_forms;
 mod class_file;
+mod class_names;
 mod constant_pool;
 mod identifiers;
 mod modified_utf8;
@@ -16,6 +17,7 @@ mod stack_map;
 pub use annotation::{Element, Elements, Note, Notes, Pair, Pairs};
 pub use attribute_forms::{Attribute, Attributes, Bootstrap, Bootstraps, Handler, Handlers};
 pub use class_file::{Class, Indices, Member, Members};
+pub use class_names::{is_class_name, is_method_name, is_unqualified};
 pub use constant_pool::{Constant, Constants, Pool, Raw};
 pub use identifiers::{CallKind, CallRef, ClassId, MemberId, MemberRef, MethodId, SiteId};
 pub use modified_utf8::is_modified_utf8;
