@@ -2,3 +2,5 @@ pub mod UnitLemmas
 pub mod TextLemmas
 pub mod NameOfClass
 pub mod ProgramLemmas
+pub mod Dimensions
+pub mod Parameters

@@ -1,5 +1,5 @@
 -- Descriptors (JVMS 4.3), read from the left.
-use Rattle.std.specs.Prelude.{◌≡◌, ℕ, zero, suc, ◌+◌, Bool, true, false, not, ◌&&◌, ◌||◌, ◌==◌, nat_lt, nat_le, List, [], ◌∷◌, ◌++◌, length, drop, codes, sum_by, take_while, Option, Some, None, is_some, option_map, option_and_then, if◌then◌else◌}
+use Rattle.std.specs.Prelude.{◌≡◌, ℕ, zero, suc, ◌+◌, Bool, true, false, not, ◌&&◌, ◌||◌, ◌==◌, nat_lt, nat_le, List, [], ◌∷◌, ◌++◌, length, take, drop, codes, sum_by, position, Option, Some, None, is_some, option_map, option_and_then, if◌then◌else◌}
 use Rattle.std.specs.List.{list_any}
 use Rattle.std.specs.Str.{byte}
 use Rattle.class_model.specs.ClassNames.{is_class_name}
@@ -30,15 +30,20 @@ slots (array component) = 1
 abbrev pub is_primitive : ℕ → Bool
 is_primitive letter = list_any (λ b. b == letter) (codes "BCDFIJSZ")
 
--- the class named up to a semicolon, and what stands behind that
-abbrev pub ended : List ℕ → List ℕ → Option (FieldType × List ℕ)
-ended name [] = None
-ended name (semicolon ∷ rest) = if is_class_name name then Some (object name, rest) else None
+-- the class that is named up to the first semicolon, and what stands behind that
+abbrev pub class_up_to : List ℕ → ℕ → Option (FieldType × List ℕ)
+class_up_to bytes n = if is_class_name (take n bytes) then Some (object (take n bytes), drop (n + 1) bytes) else None
 
-abbrev pub class_at : List ℕ → Option (FieldType × List ℕ)
-class_at bytes =
-    let name = take_while (λ b. not (b == byte ";")) bytes in
-    ended name (drop (length name) bytes)
+abbrev pub is_semicolon : ℕ → Bool
+is_semicolon b = b == byte ";"
+
+-- a type that is no array
+unfoldable pub component_at : List ℕ → Option (FieldType × List ℕ)
+component_at [] = None
+component_at (b ∷ bytes) =
+    if is_primitive b then Some (primitive b, bytes)
+    else if b == byte "L" then option_and_then (class_up_to bytes) (position is_semicolon bytes)
+    else None
 
 -- one more dimension, of at most 255
 abbrev pub deeper : FieldType × List ℕ → Option (FieldType × List ℕ)
@@ -48,10 +53,7 @@ deeper found = if nat_lt (dimensions found.0) 255 then Some (array found.0, foun
 unfoldable pub field_type_at : List ℕ → Option (FieldType × List ℕ)
 field_type_at [] = None
 field_type_at (b ∷ bytes) =
-    if is_primitive b then Some (primitive b, bytes)
-    else if b == byte "L" then class_at bytes
-    else if b == byte "[" then option_and_then deeper (field_type_at bytes)
-    else None
+    if b == byte "[" then option_and_then deeper (field_type_at bytes) else component_at (b ∷ bytes)
 
 abbrev pub alone : FieldType × List ℕ → Option FieldType
 alone (found, []) = Some found

@@ -10,3 +10,4 @@ pub mod Attributes
 pub mod Shape
 pub mod Programs
 pub mod ProgramFaults
+pub mod TypeForms

@@ -8,6 +8,7 @@ mod attribute_forms;
 mod class_file;
 mod class_names;
 mod constant_pool;
+mod descriptor_text;
 mod identifiers;
 mod modified_utf8;
 mod name_text;
