@@ -4,3 +4,4 @@ pub mod NameOfClass
 pub mod ProgramLemmas
 pub mod Dimensions
 pub mod Parameters
+pub mod TestClasses

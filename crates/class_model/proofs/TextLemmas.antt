@@ -1,9 +1,10 @@
 -- What reading a unit says of the whole text.
-use Rattle.std.proofs.Common.{◌≡◌, ℕ, false, eqb, ◌+◌, ◌^◌, ◌<◌, List, [], ◌∷◌, ◌++◌, length, flat_map, Option, Some, None, unwrap_or, refl, sym, ◌∙◌, ap, arith, length-append}
+use Rattle.std.proofs.Common.{◌≡◌, ℕ, false, eqb, ◌+◌, ◌^◌, ◌<◌, List, [], ◌∷◌, ◌++◌, length, flat_map, Option, Some, None, unwrap_or, option_map, IfSome, IfNone, refl, sym, ◌∙◌, ap, arith, length-append}
+use denote.Ref.{Bor}
 use Rattle.std.proofs.lemmas.Bool.Decides.{nat_tests}
-use Rattle.class_model.specs.ModifiedUtf8.{unit, IsModifiedUtf8, Spells}
+use Rattle.class_model.specs.ModifiedUtf8.{unit, IsUnitAt, IsModifiedUtf8, Spells}
 use Rattle.class_model.specs.Units.{unit_at}
-use Rattle.class_model.proofs.UnitLemmas.{unit_at-unit, unit_at-spelled, IsUnitAt}
+use Rattle.class_model.proofs.UnitLemmas.{unit_at-unit, unit_at-spelled}
 
 pub empty_text : IsModifiedUtf8 []
 empty_text = ([], record { fit = tt; spelled = refl })
@@ -41,3 +42,16 @@ pub shorter_behind : (bytes : List ℕ) (u : ℕ) (rest : List ℕ) → unit_at 
 shorter_behind bytes u rest e =
     let at = unit_at-spelled bytes u rest e in
     omega (arith, length-unit u, ap length at.spelled ∙ length-append (unit u) rest)
+
+-- what was read, seen by the bytes behind it
+abbrev pub seen : Option (ℕ × Bor (List ℕ)) → Option (ℕ × List ℕ)
+seen found = option_map (λ r. (r.0, r.1.now)) found
+
+pub found_is_unit : (bytes : List ℕ) (found : Option (ℕ × Bor (List ℕ))) → seen found ≡ unit_at bytes → IfSome found (λ r. IsUnitAt bytes r.0 r.1.now)
+found_is_unit bytes None e = tt
+found_is_unit bytes (Some r) e = unit_at-spelled bytes r.0 r.1.now (sym e)
+
+pub none_is_no_unit : (bytes : List ℕ) (found : Option (ℕ × Bor (List ℕ))) → seen found ≡ unit_at bytes
+    → IfNone found ((u : ℕ) (rest : List ℕ) → u < 2 ^ 16 → bytes ≡ unit u ++ rest → ⊥)
+none_is_no_unit bytes None e = λ u rest fits spelled. let at : unit_at bytes ≡ Some (u, rest) = rw spelled (unit_at-unit u rest fits) in cc
+none_is_no_unit bytes (Some r) e = tt

@@ -2,10 +2,10 @@
 use Rattle.std.proofs.Common.{◌≡◌, ℕ, ◌+◌, ◌-◌, ◌*◌, ◌/◌, ◌%◌, ◌^◌, ◌<◌, ◌≤◌, ◌⊎◌, Bool, true, false, cond, List, [], ◌∷◌, ◌++◌, length, Option, Some, None, refl, sym, ◌∙◌, ap, inl, inr, arith}
 use Rattle.std.proofs.lemmas.Bool.Decides.{nat_tests}
 use Rattle.std.proofs.lemmas.Bool.{cases_lt}
-use Rattle.class_model.specs.ModifiedUtf8.{unit}
+use Rattle.class_model.specs.ModifiedUtf8.{unit, IsUnitAt}
 use Rattle.class_model.specs.Units.{unit_at, two, three, of_two, of_three, is_later}
 
-one : (u : ℕ) → 0 < u → u < 128 → unit u ≡ u ∷ []
+pub one : (u : ℕ) → 0 < u → u < 128 → unit u ≡ u ∷ []
 unfolding unit
 one u p q = grind (arith, nat_tests)
 
@@ -60,11 +60,6 @@ unit_three h m b p q r s =
     let f : (4096 * h + 64 * m + b) / 64 % 64 ≡ m = omega arith in
     let g : (4096 * h + 64 * m + b) % 64 ≡ b = omega arith in
     high (4096 * h + 64 * m + b) s ∙ rw (e, f, g) refl
-
--- what is read is spelled so
-pub record IsUnitAt (bytes : List ℕ) (u : ℕ) (rest : List ℕ) : Type 0 where
-  pub fits : u < 2 ^ 16
-  pub spelled : bytes ≡ unit u ++ rest
 
 two_tells : (h b : ℕ) (bytes : List ℕ) (u : ℕ) (rest : List ℕ) → two h (b ∷ bytes) ≡ Some (u, rest)
     → (128 ≤ b) × (b < 192) × (64 * h + (b - 128) ≡ u) × ((u ≡ 0) ⊎ (128 ≤ u)) × (bytes ≡ rest)

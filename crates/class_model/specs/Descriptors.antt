@@ -10,12 +10,6 @@ pub data FieldType : Type 0 where
   object : List ℕ → FieldType
   array : FieldType → FieldType
 
--- how a type is spelled (JVMS 4.3.2)
-abbrev pub spelling : FieldType → List ℕ
-spelling (primitive letter) = letter ∷ []
-spelling (object name) = byte "L" ∷ name ++ byte ";" ∷ []
-spelling (array component) = byte "[" ∷ spelling component
-
 abbrev pub dimensions : FieldType → ℕ
 dimensions (primitive letter) = 0
 dimensions (object name) = 0

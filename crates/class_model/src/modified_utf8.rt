@@ -1,7 +1,7 @@
 //! Modified UTF-8 (JVMS 4.4.7).
 
 ghost use Rattle.std.specs.Prelude.{◌≡◌, ◌+◌, ◌++◌, ◌<◌, ◌^◌, ◌↔◌, ℕ, List, IsTrue, IfSome, IfNone, length, option_map};
-ghost use Rattle.class_model.specs.ModifiedUtf8.{unit, IsModifiedUtf8};
+ghost use Rattle.class_model.specs.ModifiedUtf8.{unit, IsUnitAt, IsModifiedUtf8};
 ghost use Rattle.class_model.specs.Units.{unit_at, two, three};
 
 #[tactic(auto, unfolding(crate::specs::Units::two))]
@@ -56,9 +56,8 @@ fn three(high: u16, bytes: &[u8]) -> Option<(u16, &[u8])>
     Some((unit, rest))
 }
 
-/// The UTF-16 unit at the front of the bytes, and the bytes after it. `None` where no unit is spelled there.
 #[tactic(auto, unfolding(crate::specs::Units::unit_at))]
-fn unit_in(bytes: &[u8]) -> Option<(u16, &[u8])>
+fn read_unit(bytes: &[u8]) -> Option<(u16, &[u8])>
     ensures { option_map (λ r. (r.0, r.1.now)) result ≡ unit_at bytes.now }
 {
     let (first, rest) = bytes.split_first()?;
@@ -79,6 +78,15 @@ fn unit_in(bytes: &[u8]) -> Option<(u16, &[u8])>
         return three(a - 0xe0, rest);
     }
     None
+}
+
+/// The UTF-16 unit at the front of the bytes, and the bytes after it. `None` where no unit is spelled there.
+pub fn unit_in(bytes: &[u8]) -> Option<(u16, &[u8])>
+    ensures value { option_map (λ r. (r.0, r.1.now)) result ≡ unit_at bytes.now }
+    ensures found { IfSome result (λ r. IsUnitAt bytes.now r.0 r.1.now) }
+    ensures none { IfNone result ((u : ℕ) (rest : List ℕ) → u < 2 ^ 16 → bytes.now ≡ unit u ++ rest → ⊥) }
+{
+    read_unit(bytes)
 }
 
 /// Whether the bytes are a text in modified UTF-8. A surrogate without its other half is allowed.
