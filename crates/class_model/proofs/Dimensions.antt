@@ -21,14 +21,16 @@ too_many : (n : ℕ) (t : FieldType) (rest : List ℕ) → 255 < dimensions t + 
 unfolding wrapped
 too_many zero t rest many few = absurd (omega arith)
 too_many (suc n) t rest many few = elim (cases_lt (dimensions t) 255) [
-    inl lt ↦ rw (lt-ltb (dimensions t) 255 lt) (too_many n (array t) rest (omega arith) (omega arith))
-  | inr ge ↦ rw (le-ltb (dimensions t) 255 ge) (wrapped-none n) ]
+  | inl lt ↦ rw (lt-ltb (dimensions t) 255 lt) (too_many n (array t) rest (omega arith) (omega arith))
+  | inr ge ↦ rw (le-ltb (dimensions t) 255 ge) (wrapped-none n)
+]
 
 pub wrapped-deep : (n : ℕ) (found : Option (FieldType × List ℕ)) → 255 ≤ n → wrapped n (option_and_then deeper found) ≡ None
 wrapped-deep n None deep = wrapped-none n
 wrapped-deep n (Some (t, rest)) deep = elim (cases_lt (dimensions t) 255) [
-    inl lt ↦ rw (lt-ltb (dimensions t) 255 lt) (too_many n (array t) rest (omega arith) (omega arith))
-  | inr ge ↦ rw (le-ltb (dimensions t) 255 ge) (wrapped-none n) ]
+  | inl lt ↦ rw (lt-ltb (dimensions t) 255 lt) (too_many n (array t) rest (omega arith) (omega arith))
+  | inr ge ↦ rw (le-ltb (dimensions t) 255 ge) (wrapped-none n)
+]
 
 pub wrapped-more : (n : ℕ) (found : Option (FieldType × List ℕ)) → wrapped (n + 1) found ≡ wrapped n (option_and_then deeper found)
 unfolding wrapped

@@ -48,6 +48,7 @@ class_name-IsName c s = go (option_and_then class_name_of (constant_at c.pool c.
     of_text (Some text) n at is =
         let t = text_at-IsText c.pool n text s.pool at in
         record { some = filled text is; short = omega arith; text = t.text }
+
     go : (index : Option ℕ) → IsTrue (is_some_that is_class_name (option_and_then (text_at c.pool) index)) → IsName (unwrap_or (option_and_then (text_at c.pool) index) [])
     go None is = cc
     go (Some n) is = of_text (text_at c.pool n) n refl is

@@ -13,14 +13,16 @@ same_rest {A = A} t u x y e = ap (λ (o : Option (A × List ℕ)). (unwrap_or o 
 -- A type takes bytes.
 class_shorter : (bytes : List ℕ) (n : ℕ) (t : FieldType) (more : List ℕ) → class_up_to bytes n ≡ Some (t, more) → length more ≤ length bytes
 class_shorter bytes n t more e = elim (cases_Bool (is_class_name (take n bytes))) [
-    inl y ↦ omega (arith, length-drop (n + 1) bytes, ap length (same_rest (object (take n bytes)) t (drop (n + 1) bytes) more (rw y at e)))
-  | inr f ↦ absurd (let none : None ≡ Some (t, more) = rw f at e in cc) ]
+  | inl y ↦ omega (arith, length-drop (n + 1) bytes, ap length (same_rest (object (take n bytes)) t (drop (n + 1) bytes) more (rw y at e)))
+  | inr f ↦ absurd (let none : None ≡ Some (t, more) = rw f at e in cc)
+]
 
 component_shorter : (b : ℕ) (bytes : List ℕ) (t : FieldType) (more : List ℕ) → component_at (b ∷ bytes) ≡ Some (t, more) → length more ≤ length bytes
 unfolding component_at
 component_shorter b bytes t more e = elim (cases_Bool (is_primitive b)) [
-    inl y ↦ omega (arith, ap length (same_rest (primitive b) t bytes more (rw y at e)))
-  | inr f ↦ elim (cases_Bool (eqb b 76)) [ inl y ↦ named (position is_semicolon bytes) (rw (f, y) at e) | inr g ↦ absurd (let none : None ≡ Some (t, more) = rw (f, g) at e in cc) ] ]
+  | inl y ↦ omega (arith, ap length (same_rest (primitive b) t bytes more (rw y at e)))
+  | inr f ↦ elim (cases_Bool (eqb b 76)) [ inl y ↦ named (position is_semicolon bytes) (rw (f, y) at e) | inr g ↦ absurd (let none : None ≡ Some (t, more) = rw (f, g) at e in cc) ]
+]
   where
     named : (found : Option ℕ) → option_and_then (class_up_to bytes) found ≡ Some (t, more) → length more ≤ length bytes
     named None e = cc
@@ -30,15 +32,17 @@ deeper_shorter : (bytes : List ℕ) (t : FieldType) (more : List ℕ) (found : O
     → ((u : FieldType) (rest : List ℕ) → found ≡ Some (u, rest) → length rest < length bytes) → option_and_then deeper found ≡ Some (t, more) → length more < length bytes
 deeper_shorter bytes t more None within e = cc
 deeper_shorter bytes t more (Some (u, rest)) within e = elim (cases_Bool (ltb (dimensions u) 255)) [
-    inl y ↦ omega (arith, within u rest refl, ap length (same_rest (array u) t rest more (rw y at e)))
-  | inr f ↦ absurd (let none : None ≡ Some (t, more) = rw f at e in cc) ]
+  | inl y ↦ omega (arith, within u rest refl, ap length (same_rest (array u) t rest more (rw y at e)))
+  | inr f ↦ absurd (let none : None ≡ Some (t, more) = rw f at e in cc)
+]
 
 pub shorter : (bytes : List ℕ) (t : FieldType) (more : List ℕ) → field_type_at bytes ≡ Some (t, more) → length more < length bytes
 unfolding field_type_at
 shorter [] t more e = cc
 shorter (b ∷ bytes) t more e = elim (cases_Bool (eqb b 91)) [
-    inl y ↦ omega (arith, deeper_shorter bytes t more (field_type_at bytes) (λ u rest at. shorter bytes u rest at) (rw y at e))
-  | inr f ↦ omega (arith, component_shorter b bytes t more (rw f at e)) ]
+  | inl y ↦ omega (arith, deeper_shorter bytes t more (field_type_at bytes) (λ u rest at. shorter bytes u rest at) (rw y at e))
+  | inr f ↦ omega (arith, component_shorter b bytes t more (rw f at e))
+]
 
 -- the step of reading types: what stands behind the first is read on
 abbrev pub then_types : (List ℕ → Option (List FieldType × List ℕ)) → Option (FieldType × List ℕ) → Option (List FieldType × List ℕ)
@@ -70,8 +74,9 @@ enough (suc few) zero [] p q = refl
 enough (suc few) zero (b ∷ bytes) p q = absurd (omega arith)
 enough (suc few) (suc more) [] p q = refl
 enough (suc few) (suc more) (b ∷ bytes) p q = elim (cases_Bool (eqb b 41)) [
-    inl y ↦ rw y refl
-  | inr f ↦ rw f (then_same (field_types_at few) (field_types_at more) (b ∷ bytes) (field_type_at (b ∷ bytes)) (shorter (b ∷ bytes)) (λ rest less. enough few more rest (omega arith) (omega arith))) ]
+  | inl y ↦ rw y refl
+  | inr f ↦ rw f (then_same (field_types_at few) (field_types_at more) (b ∷ bytes) (field_type_at (b ∷ bytes)) (shorter (b ∷ bytes)) (λ rest less. enough few more rest (omega arith) (omega arith)))
+]
 
 abbrev pub types_of : List ℕ → Option (List FieldType × List ℕ)
 types_of bytes = field_types_at (length bytes) bytes

@@ -33,6 +33,7 @@ next classes n name q d entered = elim (cases_Bool (bytes_eq q name)) [ inl is_i
         let e : q ≡ name = (bytes_eq-Decides q name).0 is_it in
         let t : bytes_eq name q ≡ true = (bytes_eq-Decides name q).1 (sym e) in
         same_name (sym e) (is_eq-slice_cmp name q ∙ t) (count_by_more_yes (λ c. bytes_eq q (class_name c)) classes n d entered.within (ap (bytes_eq q) (entered.named d) ∙ is_it))
+
     on_no : bytes_eq q name ≡ false → Next classes n name q
     on_no not_it =
         let f : bytes_eq name q ≡ false = nat_list_eq_equiv.symm name q ∙ not_it in
@@ -100,22 +101,28 @@ at_most_one classes n name q none (other_name not_it count) one = omega (arith, 
 pub least_fresh : (classes : List Class) (n : ℕ) (name : List ℕ) (least : Option ℕ) → Class → IsEntered classes n name
     → count_named name (take n classes) ≡ 0 → LeastAmong classes n least → LeastAmong classes (n + 1) least
 least_fresh classes n name None d entered none distinct = λ q. at_most_one classes n name q none (next classes n name q d entered) (distinct q)
-least_fresh classes n name (Some at) d entered none (below, is) = (omega (arith, below), λ e.
-    let old = is e in
-    let q = name_at classes at e in
-    record {
-      twice = omega (arith, old.twice, no_fewer classes n name q (next classes n name q d entered));
-      least = λ other two. old.least other (still_double classes n name other none (next classes n name other d entered) two);
-    })
+least_fresh classes n name (Some at) d entered none (below, is) = (
+  omega (arith, below),
+  λ e.
+      let old = is e in
+      let q = name_at classes at e in
+      record {
+        twice = omega (arith, old.twice, no_fewer classes n name q (next classes n name q d entered));
+        least = λ other two. old.least other (still_double classes n name other none (next classes n name other d entered) two);
+      },
+)
 
 -- the first double is the least
 pub least_first : (classes : List Class) (n : ℕ) (name : List ℕ) → Class → IsEntered classes n name
     → 0 < count_named name (take n classes) → HasDistinctNames (take n classes) → LeastAmong classes (n + 1) (Some n)
-least_first classes n name d entered some distinct = (omega arith, λ e.
-    rw (entered.named e) (record {
-      twice = omega (arith, once classes n name d entered, some);
-      least = λ q two. only q (next classes n name q d entered) two;
-    }))
+least_first classes n name d entered some distinct = (
+  omega arith,
+  λ e.
+      rw (entered.named e) (record {
+        twice = omega (arith, once classes n name d entered, some);
+        least = λ q two. only q (next classes n name q d entered) two;
+      }),
+)
   where
     only : (q : List ℕ) → Next classes n name q → 2 ≤ count_named q (take (n + 1) classes) → is_gt (slice_cmp nat_cmp name q) ≡ false
     only q (same_name e is_it count) two = rw (← e) (not_above_itself name)
@@ -124,18 +131,23 @@ least_first classes n name d entered some distinct = (omega arith, λ e.
 -- of the least double so far and another double the lesser is the least
 pub least_of_two : (classes : List Class) (n : ℕ) (name : List ℕ) (place found : ℕ) → Class → IsEntered classes n name
     → 0 < count_named name (take n classes) → LeastAmong classes n (Some place) → IsLesser classes place n found → LeastAmong classes (n + 1) (Some found)
-least_of_two classes n name place found d entered some (below, is) lesser = (within lesser.among, λ e. record {
+least_of_two classes n name place found d entered some (below, is) lesser = (
+  within lesser.among,
+  λ e. record {
     twice = twice e lesser.among;
     least = λ q two. least e q (next classes n name q d entered) two;
-  })
+  },
+)
   where
     within : (found ≡ place) ⊎ (found ≡ n) → found < n + 1
     within (inl e) = omega (arith, e, below)
     within (inr e) = omega (arith, e)
+
     twice : (e : Class) → (found ≡ place) ⊎ (found ≡ n) → 2 ≤ count_named (name_at classes found e) (take (n + 1) classes)
     twice e (inl f) = let q = name_at classes place e in
         rw f (omega (arith, (is e).twice, no_fewer classes n name q (next classes n name q d entered)))
     twice e (inr f) = rw (f, entered.named e) (omega (arith, once classes n name d entered, some))
+
     least : (e : Class) (q : List ℕ) → Next classes n name q → 2 ≤ count_named q (take (n + 1) classes) → is_gt (slice_cmp nat_cmp (name_at classes found e) q) ≡ false
     least e q (same_name f is_it count) two = rw (← f, ← entered.named e) (lesser.below_other e)
     least e q (other_name not_it count) two =
@@ -150,18 +162,18 @@ not_above r Greater e g = ap is_gt e
 pub other_is_lesser : (classes : List Class) (one other : ℕ) (a b : List ℕ) → ((d : Class) → name_at classes one d ≡ a) → ((d : Class) → name_at classes other d ≡ b)
     → slice_cmp nat_cmp a b ≡ Greater → IsLesser classes one other other
 other_is_lesser classes one other a b at_one at_other e = record {
-    among = inr refl;
-    below_one = λ d. rw (at_one d, at_other d) (not_above (slice_cmp nat_cmp b a) (slice_cmp nat_cmp a b) (nat_list_cmp_total.antisymm b a) e);
-    below_other = λ d. not_above_itself (name_at classes other d);
-  }
+  among = inr refl;
+  below_one = λ d. rw (at_one d, at_other d) (not_above (slice_cmp nat_cmp b a) (slice_cmp nat_cmp a b) (nat_list_cmp_total.antisymm b a) e);
+  below_other = λ d. not_above_itself (name_at classes other d);
+}
 
 pub one_is_lesser : (classes : List Class) (one other : ℕ) (a b : List ℕ) → ((d : Class) → name_at classes one d ≡ a) → ((d : Class) → name_at classes other d ≡ b)
     → is_gt (slice_cmp nat_cmp a b) ≡ false → IsLesser classes one other one
 one_is_lesser classes one other a b at_one at_other e = record {
-    among = inl refl;
-    below_one = λ d. not_above_itself (name_at classes one d);
-    below_other = λ d. rw (at_one d, at_other d) e;
-  }
+  among = inl refl;
+  below_one = λ d. not_above_itself (name_at classes one d);
+  below_other = λ d. rw (at_one d, at_other d) e;
+}
 
 -- an element within a list, at any default
 pub named_at : (classes : List Class) (at : ℕ) (c : Class) → at < length classes → c ≡ get_or classes at c → (d : Class) → name_at classes at d ≡ class_name c
@@ -182,8 +194,9 @@ count_no p x xs e = sum_by-cons (λ c. cond (p c) 1 0) x xs ∙ rw e refl
 none_passes : (p : Class → Bool) (xs : List Class) → count_by p xs ≡ 0 → find p xs ≡ None
 none_passes p [] e = refl
 none_passes p (x ∷ xs) e = elim (cases_Bool (p x)) [
-    inl t ↦ absurd (omega (arith, count_yes p x xs t, e))
-  | inr f ↦ rw f (none_passes p xs (omega (arith, count_no p x xs f, e))) ]
+  | inl t ↦ absurd (omega (arith, count_yes p x xs t, e))
+  | inr f ↦ rw f (none_passes p xs (omega (arith, count_no p x xs f, e)))
+]
 
 some_pass : (p : Class → Bool) (xs : List Class) (i : ℕ) (d : Class) → i < length xs → p (get_or xs i d) ≡ true → 0 < count_by p xs
 some_pass p [] i d within t = absurd (omega arith)
@@ -198,8 +211,9 @@ one_passes p [] i one within t = absurd (omega arith)
 one_passes p (x ∷ xs) zero one within t = rw (t x) refl
 one_passes p (x ∷ xs) (suc i) one within t =
     elim (cases_Bool (p x)) [
-      inl y ↦ absurd (omega (arith, count_yes p x xs y, one, some_pass p xs i x (omega arith) (t x)))
-    | inr f ↦ rw f (one_passes p xs i (omega (arith, count_no p x xs f, one)) (omega arith) t) ]
+      | inl y ↦ absurd (omega (arith, count_yes p x xs y, one, some_pass p xs i x (omega arith) (t x)))
+      | inr f ↦ rw f (one_passes p xs i (omega (arith, count_no p x xs f, one)) (omega arith) t)
+    ]
 
 -- what an index finds is the class of the name
 pub found_class : (classes : List Class) (q : List ℕ) (at : ℕ) → HasDistinctNames classes → FoundAmong classes (length classes) q (Some at)

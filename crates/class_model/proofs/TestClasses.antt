@@ -27,17 +27,17 @@ ascii (b ∷ bytes) e =
 
 abbrev pub plain : ℕ → Class
 plain letter = record {
-    minor = 0;
-    major = 52;
-    pool = record { constants = constants.Utf8 (letter ∷ []) ∷ constants.Class 1 ∷ constants.Utf8 (codes "java/lang/Object") ∷ constants.Class 3 ∷ [] };
-    flags = 33;
-    this_class = 2;
-    super_class = 4;
-    interfaces = [];
-    fields = [];
-    methods = [];
-    attributes = [];
-  }
+  minor = 0;
+  major = 52;
+  pool = record { constants = constants.Utf8 (letter ∷ []) ∷ constants.Class 1 ∷ constants.Utf8 (codes "java/lang/Object") ∷ constants.Class 3 ∷ [] };
+  flags = 33;
+  this_class = 2;
+  super_class = 4;
+  interfaces = [];
+  fields = [];
+  methods = [];
+  attributes = [];
+}
 
 object_name : is_class_name (codes "java/lang/Object") ≡ true
 unfolding is_class_name is_unqualified
@@ -46,23 +46,23 @@ object_name = refl
 plain_shaped : (letter : ℕ) → list_all is_ascii (letter ∷ []) ≡ true → is_class_name (letter ∷ []) ≡ true → Shaped (plain letter)
 unfolding is_plain_class has_super class_name class_at text_at has_targets has_seconds
 plain_shaped letter text name = record {
-    minor = omega arith;
-    oldest = omega arith;
-    newest = omega arith;
-    pool = record {
-      counted = omega arith;
-      constants = ((omega arith, (letter ∷ [], ascii (letter ∷ []) text)), (omega arith, ((omega arith, (codes "java/lang/Object", ascii (codes "java/lang/Object") refl)), (omega arith, tt))));
-      seconds = refl;
-      targets = (refl, (or_left (is_class_name (letter ∷ [])) _ name, (refl, (or_left (is_class_name (codes "java/lang/Object")) _ object_name, tt))));
-    };
-    flags = omega arith;
-    this_class = name;
-    super_class = object_name;
-    interfaces = (omega arith, tt);
-    fields = record { each = (omega arith, tt); once = refl };
-    methods = record { each = (omega arith, tt); once = refl };
-    attributes = record { each = (omega arith, tt); once = refl };
-  }
+  minor = omega arith;
+  oldest = omega arith;
+  newest = omega arith;
+  pool = record {
+    counted = omega arith;
+    constants = ((omega arith, (letter ∷ [], ascii (letter ∷ []) text)), (omega arith, ((omega arith, (codes "java/lang/Object", ascii (codes "java/lang/Object") refl)), (omega arith, tt))));
+    seconds = refl;
+    targets = (refl, (or_left (is_class_name (letter ∷ [])) _ name, (refl, (or_left (is_class_name (codes "java/lang/Object")) _ object_name, tt))));
+  };
+  flags = omega arith;
+  this_class = name;
+  super_class = object_name;
+  interfaces = (omega arith, tt);
+  fields = record { each = (omega arith, tt); once = refl };
+  methods = record { each = (omega arith, tt); once = refl };
+  attributes = record { each = (omega arith, tt); once = refl };
+}
 
 pub plain_is_shaped : (letter : ℕ) → (letter ≡ 65) ⊎ (letter ≡ 66) → Shaped (plain letter)
 unfolding is_class_name is_unqualified

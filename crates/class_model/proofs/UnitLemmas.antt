@@ -34,13 +34,16 @@ three_at h m b rest p q r s = grind (arith, nat_tests)
 -- a unit is read from its spelling, whatever follows
 pub unit_at-unit : (u : ℕ) (rest : List ℕ) → u < 2 ^ 16 → unit_at (unit u ++ rest) ≡ Some (u, rest)
 unit_at-unit u rest p =
-    elim (cases_lt u 128) [ inl small ↦ elim (cases_lt 0 u) [ inl q ↦ rw one (one_at u rest q small) | inr q ↦ from_two (inl (omega arith)) (omega arith) ]
-      | inr large ↦ elim (cases_lt u 2048) [ inl q ↦ from_two (inr large) q | inr q ↦ from_three q ] ]
+    elim (cases_lt u 128) [
+      | inl small ↦ elim (cases_lt 0 u) [ inl q ↦ rw one (one_at u rest q small) | inr q ↦ from_two (inl (omega arith)) (omega arith) ]
+      | inr large ↦ elim (cases_lt u 2048) [ inl q ↦ from_two (inr large) q | inr q ↦ from_three q ]
+    ]
   where
     from_two : (u ≡ 0) ⊎ (128 ≤ u) → u < 2048 → unit_at (unit u ++ rest) ≡ Some (u, rest)
     from_two q r =
         let e : 64 * (u / 64) + u % 64 ≡ u = omega arith in
         rw (low u q r) (two_at (u / 64) (u % 64) rest (omega arith) (omega arith) (rw e q) ∙ ap (λ n. Some (n, rest)) e)
+
     from_three : 2048 ≤ u → unit_at (unit u ++ rest) ≡ Some (u, rest)
     from_three q =
         let e : 4096 * (u / 4096) + 64 * (u / 64 % 64) + u % 64 ≡ u = omega arith in
@@ -112,7 +115,9 @@ unit_at-spelled (b ∷ bytes) u rest e = elim (cases_lt b 128) [ inl small ↦ s
         let at_u : u < 128 = omega arith in
         let some : 0 < u = omega arith in
         record { fits = omega arith; spelled = rw (one u some at_u, t.1, t.2) refl }
+
     long : 128 ≤ b → IsUnitAt (b ∷ bytes) u rest
     long p = elim (more_tells b bytes u rest e p) [
-        inl t ↦ (let s : 192 + (b - 192) ≡ b = omega arith in rw s at (two_spelled (b - 192) bytes u rest (omega arith) t.2))
-      | inr t ↦ (let s : 224 + (b - 224) ≡ b = omega arith in rw s at (three_spelled (b - 224) bytes u rest (omega arith) t.2)) ]
+      | inl t ↦ (let s : 192 + (b - 192) ≡ b = omega arith in rw s at (two_spelled (b - 192) bytes u rest (omega arith) t.2))
+      | inr t ↦ (let s : 224 + (b - 224) ≡ b = omega arith in rw s at (three_spelled (b - 224) bytes u rest (omega arith) t.2))
+    ]

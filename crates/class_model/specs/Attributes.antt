@@ -59,9 +59,9 @@ pub record IsHandler (pool : Pool) (h : Handler) : Type 0 where
 pub record IsFrameType (pool : Pool) (t : FrameType) : Type 0 where
   pub tag : t.tag ≤ 8
   pub index : IsTrue (
-    if t.tag == 7 then is_some_that is_class_constant (constant_at pool t.index)
-    else if t.tag == 8 then nat_lt t.index (2 ^ 16)
-    else t.index == 0)
+      if t.tag == 7 then is_some_that is_class_constant (constant_at pool t.index)
+      else if t.tag == 8 then nat_lt t.index (2 ^ 16)
+      else t.index == 0)
 
 -- how many locals and stack items a frame of a tag writes, and which delta its tag has within it
 unfoldable pub has_layout : StackFrame → Bool

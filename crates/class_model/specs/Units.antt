@@ -1,5 +1,5 @@
 -- Reading modified UTF-8 unit by unit.
-use Rattle.std.specs.Prelude.{ℕ, ◌+◌, ◌-◌, ◌*◌, Bool, ◌&&◌, ◌==◌, nat_lt, nat_le, List, [], ◌∷◌, Option, Some, None, if◌then◌else◌}
+use Rattle.std.specs.Prelude.{ℕ, zero, suc, ◌+◌, ◌-◌, ◌*◌, Bool, ◌&&◌, ◌==◌, nat_lt, nat_le, List, [], ◌∷◌, length, Option, Some, None, is_some, option_map, option_and_then, if◌then◌else◌}
 
 -- a byte after the first has six bits of the unit
 abbrev pub is_later : ℕ → Bool
@@ -31,3 +31,14 @@ unit_at (b ∷ rest) =
     else if nat_lt b 0xe0 then two (b - 0xc0) rest
     else if nat_lt b 0xf0 then three (b - 0xe0) rest
     else None
+
+-- all units of bytes, of which there are at most so many; None where the bytes are no text
+unfoldable pub units_at : ℕ → List ℕ → Option (List ℕ)
+units_at most [] = Some []
+units_at zero (b ∷ bytes) = None
+units_at (suc most) (b ∷ bytes) =
+    option_and_then (λ found. option_map (λ units. found.0 ∷ units) (units_at most found.1)) (unit_at (b ∷ bytes))
+
+-- whether bytes are a text; a text has at most as many units as bytes
+unfoldable pub is_text : List ℕ → Bool
+is_text bytes = is_some (units_at (length bytes) bytes)

@@ -1,11 +1,10 @@
 //! Attributes (JVMS 4.7).
 
-use sqlite_items::Items;
-
 use crate::annotation::Notes;
 use crate::class_file::Indices;
 use crate::constant_pool::Raw;
 use crate::stack_map::StackFrames;
+use sqlite_items::Items;
 
 /// The attributes in one place, in file order.
 pub type Attributes = Items<Attribute>;
@@ -29,15 +28,30 @@ pub enum Attribute {
         attributes: Attributes,
     },
     /// The stack map of code (JVMS 4.7.4).
-    StackMap { name: u16, frames: StackFrames },
+    StackMap {
+        name: u16,
+        frames: StackFrames,
+    },
     /// The constant value of a field (JVMS 4.7.2).
-    ConstantValue { name: u16, value: u16 },
+    ConstantValue {
+        name: u16,
+        value: u16,
+    },
     /// The bootstrap methods of a class (JVMS 4.7.23).
-    Bootstrap { name: u16, entries: Bootstraps },
+    Bootstrap {
+        name: u16,
+        entries: Bootstraps,
+    },
     /// The annotations of a class, a field or a method that are visible at run time (JVMS 4.7.16).
-    Annotations { name: u16, list: Notes },
+    Annotations {
+        name: u16,
+        list: Notes,
+    },
     /// Any other attribute, by its bytes.
-    Other { name: u16, bytes: Raw },
+    Other {
+        name: u16,
+        bytes: Raw,
+    },
 }
 
 /// An entry of an exception table: the pcs from `start` up to `end`, and where control goes.

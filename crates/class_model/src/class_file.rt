@@ -2,10 +2,9 @@
 
 ghost use Rattle.std.specs.Prelude.{◌≡◌};
 
-use sqlite_items::Items;
-
 use crate::attribute_forms::Attributes;
 use crate::constant_pool::Pool;
+use sqlite_items::Items;
 
 /// Indices into a pool.
 pub type Indices = Items<u16>;

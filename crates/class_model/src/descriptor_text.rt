@@ -2,7 +2,6 @@
 
 ghost use Rattle.std.specs.Prelude.{◌≡◌, ◌==◌, ◌<◌, ◌≤◌, IfSome, length, option_map, option_and_then, IfNone, position, if◌then◌else◌};
 ghost use Rattle.class_model.specs.Descriptors.{is_semicolon, class_up_to, is_primitive, component_at, deeper, field_type_at, is_field_descriptor, is_return_descriptor, is_method_descriptor, field_types_at, slots};
-
 ghost use Rattle.class_model.specs.TypeForms.{component, type_of, wrapped, are_within};
 
 use crate::class_names::is_class_name;
@@ -27,7 +26,10 @@ fn semicolon(bytes: &[u8]) -> Option<usize>
 fn is_primitive(letter: u8) -> bool
     ensures { result ≡ is_primitive letter }
 {
-    matches!(letter, b'B' | b'C' | b'D' | b'F' | b'I' | b'J' | b'S' | b'Z')
+    matches!(
+        letter,
+        b'B' | b'C' | b'D' | b'F' | b'I' | b'J' | b'S' | b'Z'
+    )
 }
 
 fn class_in(bytes: &[u8]) -> Option<(TypeForm<'_>, &[u8])>

@@ -20,7 +20,9 @@ pub use attribute_forms::{Attribute, Attributes, Bootstrap, Bootstraps, Handler,
 pub use class_file::{Class, Indices, Member, Members};
 pub use class_names::{is_class_name, is_method_name, is_unqualified};
 pub use constant_pool::{Constant, Constants, Pool, Raw};
-pub use descriptor_text::{TypeForm, field_type_in, is_field_descriptor, is_method_descriptor, is_return_descriptor};
+pub use descriptor_text::{
+    TypeForm, field_type_in, is_field_descriptor, is_method_descriptor, is_return_descriptor,
+};
 pub use identifiers::{CallKind, CallRef, ClassId, MemberId, MemberRef, MethodId, SiteId};
 pub use modified_utf8::{is_modified_utf8, unit_in};
 pub use name_text::{CopyFault, Name, NameFault};

@@ -2,7 +2,7 @@
 
 ghost use Rattle.std.specs.Prelude.{◌≡◌, ◌+◌, ◌++◌, ◌<◌, ◌^◌, ◌↔◌, ℕ, List, IsTrue, IfSome, IfNone, length, option_map};
 ghost use Rattle.class_model.specs.ModifiedUtf8.{unit, IsUnitAt, IsModifiedUtf8};
-ghost use Rattle.class_model.specs.Units.{unit_at, two, three};
+ghost use Rattle.class_model.specs.Units.{unit_at, is_text, two, three};
 
 #[tactic(auto, unfolding(crate::specs::Units::two))]
 fn two(high: u16, bytes: &[u8]) -> Option<(u16, &[u8])>
@@ -89,8 +89,7 @@ pub fn unit_in(bytes: &[u8]) -> Option<(u16, &[u8])>
     read_unit(bytes)
 }
 
-/// Whether the bytes are a text in modified UTF-8. A surrogate without its other half is allowed.
-pub fn is_modified_utf8(bytes: &[u8]) -> bool
+fn spells_units(bytes: &[u8]) -> bool
     ensures { IsTrue result ↔ IsModifiedUtf8 bytes.now }
 {
     let mut rest = bytes;
@@ -101,4 +100,12 @@ pub fn is_modified_utf8(bytes: &[u8]) -> bool
         }
     }
     true
+}
+
+/// Whether the bytes are a text in modified UTF-8. A surrogate without its other half is allowed.
+pub fn is_modified_utf8(bytes: &[u8]) -> bool
+    ensures grammar { IsTrue result ↔ IsModifiedUtf8 bytes.now }
+    ensures value { result ≡ is_text bytes.now }
+{
+    spells_units(bytes)
 }

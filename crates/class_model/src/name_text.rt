@@ -11,12 +11,11 @@ ghost use Rattle.class_model.specs.ModifiedUtf8.{IsName};
 ghost use Rattle.class_model.specs.declared.name_text.NameFault.TheVariants as name_fault;
 ghost use Rattle.class_model.specs.declared.name_text.CopyFault.TheVariants as copy_fault;
 
+use crate::modified_utf8::is_modified_utf8;
 use std::alloc::{AllocError, Global};
 use std::cmp::Ordering;
 use std::marker::Model;
 use thiserror::Error;
-
-use crate::modified_utf8::is_modified_utf8;
 
 /// The name of a class, field or method, or a descriptor: 1 to 65,535 bytes of modified UTF-8.
 #[derive(Debug, Drop)]

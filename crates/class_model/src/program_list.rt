@@ -8,15 +8,14 @@ ghost use Rattle.class_model.specs.Shape.{Shaped, class_name};
 ghost use Rattle.class_model.specs.Programs.{HasDistinctNames, IsLeastDouble, IsIndexOf, LeastAmong, IsLesser, IsProgram, find_class};
 ghost use Rattle.class_model.specs.declared.program_list.ProgramFault.TheVariants as program_fault;
 
+use crate::class_file::Class;
+use crate::name_text::Name;
+use sqlite_items::at;
 use std::alloc::{AllocError, AllocFailed, Global};
 use std::cmp::Ordering;
 use std::collections::BTreeMap;
 use std::marker::Model;
-use sqlite_items::at;
 use thiserror::Error;
-
-use crate::class_file::Class;
-use crate::name_text::Name;
 
 /// A list of classes with distinct names, in the order in which they were given. A look-up by name is logarithmic.
 #[derive(Drop)]
@@ -77,7 +76,6 @@ fn name_of(alloc: Global, class: &Class) -> Result<Name, AllocError>
 {
     Name::made(alloc, class.name())
 }
-
 
 /// Of two places the one with the lesser name.
 fn lesser(classes: &[Class], one: usize, other: usize) -> usize

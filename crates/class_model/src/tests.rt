@@ -3,12 +3,11 @@
 ghost use Rattle.std.specs.Prelude.{◌≡◌, ◌⊎◌, IfOk};
 ghost use Rattle.class_model.specs.Shape.{Shaped};
 
+use super::*;
 use sqlite_items::Items;
 use std::alloc::{AllocError, Global};
 use std::process::Abort;
 use std::test::Fail;
-
-use super::*;
 
 fn refuses(rt: &impl Abort, alloc: Global, bytes: &[u8]) {
     let refused = matches!(Name::of(alloc, bytes), Err(NameFault::BadName));
@@ -142,11 +141,10 @@ fn the_name_of_two_classes_is_refused(rt: HostRuntime) -> Result<(), Fail> {
     let mut classes = Vec::new(rt.alloc());
     classes.push(class_of_letter(rt.alloc(), b'A')?)?;
     classes.push(class_of_letter(rt.alloc(), b'A')?)?;
-    let refused = match Program::of(rt.alloc(), classes) {
-        Err(ProgramFault::DuplicateClass(name)) => name.as_slice() == b"A".as_slice(),
-        _ => false,
+    let Err(ProgramFault::DuplicateClass(name)) = Program::of(rt.alloc(), classes) else {
+        return Err(Fail::from("two classes of one name are a program"));
     };
-    assert!(rt; refused);
+    assert!(rt; name.as_slice() == b"A".as_slice());
     Ok(())
 }
 
