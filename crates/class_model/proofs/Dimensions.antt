@@ -1,5 +1,5 @@
 -- An array of n dimensions is read as n brackets and a component.
-use Rattle.std.proofs.Common.{◌≡◌, ℕ, zero, suc, eqb, ◌+◌, ◌<◌, ◌≤◌, List, Option, Some, None, option_and_then, refl, ◌∙◌, ap, inl, inr, arith, add-one}
+use Rattle.std.proofs.Common.{◌≡◌, ℕ, zero, suc, eqb, ◌+◌, ◌<◌, ◌≤◌, List, Option, Some, None, option_and_then, refl, inl, inr, arith, add-one}
 use Rattle.std.proofs.lemmas.Bool.{cases_lt, cases_Bool, lt-ltb, le-ltb}
 use Rattle.class_model.specs.Descriptors.{FieldType, array, dimensions, slots, deeper}
 use Rattle.class_model.specs.TypeForms.{arrays, component, wrapped}

@@ -1,5 +1,5 @@
 -- The name of a shaped class is a name.
-use Rattle.std.proofs.Common.{◌≡◌, ℕ, zero, suc, ◌+◌, ◌^◌, ◌<◌, ◌≤◌, Bool, true, false, ◌&&◌, List, [], ◌∷◌, length, Option, Some, None, option_and_then, unwrap_or, IsTrue, slice_get, refl, subst, arith}
+use Rattle.std.proofs.Common.{◌≡◌, ℕ, zero, suc, ◌^◌, ◌<◌, true, List, [], ◌∷◌, length, Option, Some, None, option_and_then, unwrap_or, IsTrue, slice_get, refl, subst, arith}
 use Rattle.std.specs.List.{AllByRecursion}
 use Rattle.class_model.specs.declared.constant_pool.Constant.{Constant}
 use Rattle.class_model.specs.declared.constant_pool.Constant.TheVariants.{Utf8}

@@ -1,5 +1,5 @@
 -- The parameters of a method are read one after another.
-use Rattle.std.proofs.Common.{◌≡◌, ℕ, zero, suc, eqb, ltb, ◌+◌, ◌-◌, ◌<◌, ◌≤◌, Bool, true, false, cond, ◌&&◌, leb, sum_by, position, List, [], ◌∷◌, length, take, drop, Option, Some, None, unwrap_or, option_map, option_and_then, refl, sym, ◌∙◌, ap, inl, inr, arith, length-drop}
+use Rattle.std.proofs.Common.{◌≡◌, ℕ, zero, suc, eqb, ltb, ◌+◌, ◌<◌, ◌≤◌, Bool, true, false, ◌&&◌, leb, sum_by, position, List, [], ◌∷◌, length, take, drop, Option, Some, None, unwrap_or, option_map, option_and_then, refl, ◌∙◌, ap, inl, inr, arith, length-drop}
 use Rattle.std.proofs.lemmas.Bool.{cases_Bool, le-leb, lt-leb, ne_eqb, and_right}
 use Rattle.std.proofs.lemmas.List.Sums.{sum_by-cons}
 use Rattle.class_model.specs.ClassNames.{is_class_name}

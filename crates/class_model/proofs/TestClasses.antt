@@ -1,13 +1,12 @@
 -- The classes of the tests are shaped.
-use Rattle.std.proofs.Common.{◌≡◌, ℕ, ◌^◌, ◌<◌, ◌≤◌, ◌⊎◌, Bool, true, ◌&&◌, ltb, List, [], ◌∷◌, ◌++◌, refl, sym, ◌∙◌, ap, codes, inl, inr, arith}
+use Rattle.std.proofs.Common.{◌≡◌, ℕ, ◌<◌, ◌⊎◌, Bool, true, ◌&&◌, ltb, List, [], ◌∷◌, refl, ap, codes, inl, inr, arith}
 use Rattle.std.specs.List.{list_all}
 use Rattle.std.proofs.lemmas.Bool.{and_parts, or_left, ltb-true}
 use Rattle.class_model.specs.declared.class_file.Class.{Class}
 use Rattle.class_model.specs.declared.constant_pool.Constant.TheVariants as constants
-use Rattle.class_model.specs.ModifiedUtf8.{unit, IsModifiedUtf8, Spells}
+use Rattle.class_model.specs.ModifiedUtf8.{Spells}
 use Rattle.class_model.specs.ClassNames.{is_class_name, is_unqualified}
 use Rattle.class_model.specs.Constants.{text_at, class_at, has_targets, has_seconds}
-use Rattle.class_model.specs.Attributes.{is_known}
 use Rattle.class_model.specs.Shape.{Shaped, is_plain_class, has_super, class_name}
 use Rattle.class_model.proofs.UnitLemmas.{one}
 

@@ -1,5 +1,5 @@
 -- What reading a unit says of the whole text.
-use Rattle.std.proofs.Common.{◌≡◌, ◌↔◌, ℕ, zero, suc, Bool, true, false, eqb, ◌+◌, ◌^◌, ◌<◌, ◌≤◌, IsTrue, is_some, option_and_then, List, [], ◌∷◌, ◌++◌, length, flat_map, Option, Some, None, unwrap_or, option_map, IfSome, IfNone, refl, sym, ◌∙◌, ap, arith, length-append}
+use Rattle.std.proofs.Common.{◌≡◌, ◌↔◌, ℕ, zero, suc, Bool, true, false, eqb, ◌^◌, ◌<◌, ◌≤◌, IsTrue, is_some, option_and_then, List, [], ◌∷◌, ◌++◌, length, flat_map, Option, Some, None, unwrap_or, option_map, IfSome, IfNone, refl, sym, ◌∙◌, ap, arith, length-append}
 use denote.Ref.{Bor}
 use Rattle.std.proofs.lemmas.Bool.Decides.{nat_tests}
 use Rattle.class_model.specs.ModifiedUtf8.{unit, IsUnitAt, IsModifiedUtf8, Spells}

@@ -1,9 +1,9 @@
 -- A unit is read back from its spelling, and what is read is spelled so.
-use Rattle.std.proofs.Common.{◌≡◌, ℕ, ◌+◌, ◌-◌, ◌*◌, ◌/◌, ◌%◌, ◌^◌, ◌<◌, ◌≤◌, ◌⊎◌, Bool, true, false, cond, List, [], ◌∷◌, ◌++◌, length, Option, Some, None, refl, sym, ◌∙◌, ap, inl, inr, arith}
+use Rattle.std.proofs.Common.{◌≡◌, ℕ, ◌+◌, ◌-◌, ◌*◌, ◌/◌, ◌%◌, ◌^◌, ◌<◌, ◌≤◌, ◌⊎◌, List, [], ◌∷◌, ◌++◌, Some, refl, ◌∙◌, ap, inl, inr, arith}
 use Rattle.std.proofs.lemmas.Bool.Decides.{nat_tests}
 use Rattle.std.proofs.lemmas.Bool.{cases_lt}
 use Rattle.class_model.specs.ModifiedUtf8.{unit, IsUnitAt}
-use Rattle.class_model.specs.Units.{unit_at, two, three, of_two, of_three, is_later}
+use Rattle.class_model.specs.Units.{unit_at, two, three}
 
 pub one : (u : ℕ) → 0 < u → u < 128 → unit u ≡ u ∷ []
 unfolding unit

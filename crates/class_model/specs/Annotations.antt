@@ -1,5 +1,5 @@
 -- Which annotations have a text (JVMS 4.7.16).
-use Rattle.std.specs.Prelude.{ℕ, zero, suc, ◌^◌, ◌<◌, Bool, true, false, ◌==◌, List, length, codes, is_some, IsTrue}
+use Rattle.std.specs.Prelude.{ℕ, zero, suc, ◌^◌, ◌<◌, Bool, false, ◌==◌, List, length, codes, is_some, IsTrue}
 use Rattle.std.specs.List.{list_any, AllByRecursion}
 use Rattle.std.specs.Str.{byte}
 use Rattle.class_model.specs.declared.constant_pool.Constant.{Constant}

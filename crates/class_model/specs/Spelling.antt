@@ -1,5 +1,5 @@
 -- How each part of a class file is spelled (JVMS chapter 4). Numbers are big-endian.
-use Rattle.std.specs.Prelude.{ℕ, zero, suc, ◌+◌, nat_lt, nat_le, ◌==◌, ◌&&◌, List, [], ◌∷◌, ◌++◌, length, flat_map, if◌then◌else◌}
+use Rattle.std.specs.Prelude.{ℕ, zero, suc, ◌+◌, nat_lt, List, [], ◌∷◌, ◌++◌, length, flat_map, if◌then◌else◌}
 use Rattle.std.specs.Int.{to_be_bytes, w16, w32, w64}
 use Rattle.std.specs.Str.{byte}
 use Rattle.class_model.specs.declared.constant_pool.Constant.{Constant}

@@ -1,7 +1,6 @@
 -- The type that a form of the code stands for.
 use Rattle.std.specs.Prelude.{ℕ, zero, suc, ◌+◌, ◌==◌, Bool, false, ◌&&◌, nat_le, sum_by, List, Option, Some, None, option_and_then, if◌then◌else◌}
 use Rattle.std.specs.Str.{byte}
-use denote.Ref.{Bor}
 use Rattle.class_model.specs.declared.descriptor_text.TypeForm.{TypeForm}
 use Rattle.class_model.specs.Descriptors.{FieldType, primitive, object, array, deeper, slots, is_return_descriptor}
 

@@ -1,6 +1,4 @@
-use Rattle.std.proofs.Common.{◌≡◌, ◌+◌, ◌<◌, sym, ◌∙◌, arith, length}
-use Rattle.class_model.specs.Descriptors.{slots}
-use Rattle.class_model.specs.TypeForms.{type_of, are_within}
+use Rattle.std.proofs.Common.{◌+◌, sym, ◌∙◌, arith}
 use Rattle.class_model.proofs.Parameters.{closing, none_there, passed, too_much, nothing_left, shorter, types_of}
 use Rattle.class_model.proofs.descriptor_text.parameters_fit.Goals as goal
 

@@ -1,4 +1,4 @@
-use Rattle.std.proofs.Common.{sym, arith, rules}
+use Rattle.std.proofs.Common.{sym}
 use Rattle.class_model.proofs.TextLemmas.{text_behind, text_before, no_text, shorter_behind}
 use Rattle.class_model.proofs.modified_utf8.spells_units.Goals as goal
 

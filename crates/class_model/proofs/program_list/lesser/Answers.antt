@@ -1,4 +1,4 @@
-use Rattle.std.proofs.Common.{sym, ◌∙◌, ap, refl}
+use Rattle.std.proofs.Common.{sym, ◌∙◌}
 use Rattle.class_model.proofs.ProgramLemmas.{one_is_lesser, other_is_lesser, named_at, not_greater}
 use Rattle.class_model.proofs.program_list.lesser.Goals as goal
 

@@ -1,5 +1,5 @@
-use Rattle.std.proofs.Common.{◌≡◌, ◌≤◌, Some, sym, subst, length, arith}
-use Rattle.class_model.specs.Programs.{LeastAmong, IsLeastDouble, HasDistinctNames}
+use Rattle.std.proofs.Common.{◌≡◌, Some, subst, length, arith}
+use Rattle.class_model.specs.Programs.{LeastAmong, HasDistinctNames}
 use Rattle.class_model.proofs.ProgramLemmas.{index_all, distinct_all, double_all, not_distinct}
 use Rattle.class_model.proofs.program_list.Program.of.Goals as goal
 
