@@ -6,12 +6,16 @@
 
 mod faults;
 mod gates;
+mod held;
+mod plans;
 mod stores;
 mod streams;
 mod workspaces;
 
 pub use faults::IoFault;
 pub use gates::{Gate, NoGate, Phase};
+pub use held::Contents;
+pub use plans::Leaves;
 pub use stores::Store;
 pub use streams::{Sink, Source};
 pub use workspaces::Workspace;

@@ -1,0 +1,37 @@
+-- Which calls of a device in memory fail, and what a failed change leaves there.
+use Rattle.std.specs.Prelude.{ℕ, ◌+◌, ◌==◌, Bool, min, List, Option, is_some, if◌then◌else◌}
+use Rattle.std.specs.Map.{lookup}
+use Rattle.io_traits.specs.Causes.{last_count}
+use Rattle.io_traits.specs.Files.{Files, insert, remove}
+use Rattle.io_traits.specs.declared.plans.Leaves.{Leaves}
+use Rattle.io_traits.specs.declared.plans.Leaves.TheVariants.{Old, New, Nothing}
+
+-- the numbers of the calls that are to fail, each with what it leaves, and how many calls and failures there were
+pub record Planned : Type 0 where
+  pub failing : List (ℕ × Leaves)
+  pub calls : ℕ
+  pub faults : ℕ
+
+-- a count with one more, which stands still at its last value
+abbrev pub one_more : ℕ → ℕ
+one_more n = min (n + 1) last_count
+
+-- what the next call leaves, if its number is among those that are to fail
+abbrev pub next_leaves : Planned → Option Leaves
+next_leaves plan = lookup (λ number. number == one_more plan.calls) plan.failing
+
+-- after one more call, which is a fault just where it was to fail
+abbrev pub after_call : Planned → Planned
+after_call plan = record plan { calls = one_more plan.calls; faults = if is_some (next_leaves plan) then one_more plan.faults else plan.faults }
+
+-- what a failed put leaves of the files
+abbrev pub left_by_put : Leaves → List ℕ → List ℕ → Files → Files
+left_by_put Old name bytes files = files
+left_by_put New name bytes files = insert files name bytes
+left_by_put Nothing name bytes files = remove files name
+
+-- what a failed removal leaves of the files
+abbrev pub left_by_remove : Leaves → List ℕ → Files → Files
+left_by_remove Old name files = files
+left_by_remove New name files = remove files name
+left_by_remove Nothing name files = remove files name
