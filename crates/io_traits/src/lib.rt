@@ -7,6 +7,7 @@
 mod faults;
 mod gates;
 mod held;
+mod mem_stores;
 mod plans;
 mod stores;
 mod streams;
@@ -15,6 +16,7 @@ mod workspaces;
 pub use faults::IoFault;
 pub use gates::{Gate, NoGate, Phase};
 pub use held::Contents;
+pub use mem_stores::MemStore;
 pub use plans::Leaves;
 pub use stores::Store;
 pub use streams::{Sink, Source};

@@ -1,7 +1,8 @@
 //! Which calls of a device in memory are to fail, and the count of those that did.
 
-ghost use Rattle.std.specs.Prelude.{◌≡◌, ◌==◌, [], map, IfOk};
+ghost use Rattle.std.specs.Prelude.{◌≡◌, ◌≤◌, ◌==◌, [], map, IfOk, IsSome};
 ghost use Rattle.std.specs.Map.{lookup};
+ghost use Rattle.io_traits.specs.Causes.{Rose};
 ghost use Rattle.io_traits.specs.Planned.{next_leaves, after_call};
 
 use std::alloc::Global;
@@ -70,6 +71,8 @@ impl CallPlan {
     pub(crate) fn count(&mut self) -> Option<Leaves>
         ensures leaves { result ≡ next_leaves self.old }
         ensures counted { self.new ≡ after_call self.old }
+        ensures later { self.old.faults ≤ self.new.faults }
+        ensures rose { IsSome result → Rose self.old.faults self.new.faults }
     {
         let number = self.calls.saturating_add(1);
         let leaves = find_leaves(&self.failing, number);
