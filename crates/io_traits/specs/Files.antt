@@ -1,6 +1,6 @@
 -- What a device of files holds: pairs of a name and its bytes, in byte order of the names. A device may not tell
 -- what it holds, so its content is optional, and a change of it is an equation that holds either way.
-use Rattle.std.specs.Prelude.{◌≡◌, ℕ, Bool, not, ◌⊎◌, List, map, Option}
+use Rattle.std.specs.Prelude.{◌≡◌, ℕ, not, ◌⊎◌, List, map, Option}
 use Rattle.std.specs.Option.{option_map}
 use Rattle.std.specs.declared.cmp.Ordering.{Ordering}
 use Rattle.std.specs.Ordering.{nat_cmp, eq_by_cmp}

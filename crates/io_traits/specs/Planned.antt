@@ -1,5 +1,5 @@
 -- Which calls of a device in memory fail, and what a failed change leaves there.
-use Rattle.std.specs.Prelude.{ℕ, ◌+◌, ◌==◌, Bool, min, List, Option, is_some, if◌then◌else◌}
+use Rattle.std.specs.Prelude.{ℕ, ◌+◌, ◌==◌, min, List, Option, None, Some, Result, Ok, Err, is_some, if◌then◌else◌}
 use Rattle.std.specs.Map.{lookup}
 use Rattle.io_traits.specs.Causes.{last_count}
 use Rattle.io_traits.specs.Files.{Files, insert, remove}
@@ -35,3 +35,14 @@ abbrev pub left_by_remove : Leaves → List ℕ → Files → Files
 left_by_remove Old name files = files
 left_by_remove New name files = remove files name
 left_by_remove Nothing name files = remove files name
+
+-- the files with these bytes at the path, or without the path
+abbrev pub set_to : List ℕ → Option (List ℕ) → Files → Files
+set_to path None files = remove files path
+set_to path (Some bytes) files = insert files path bytes
+
+-- how often a sink wanted memory, after a write that was to fail by the plan or not
+abbrev pub wanted : {T E : Type 0} → Option Leaves → Result T E → ℕ → ℕ
+wanted (Some leaves) result wants = wants
+wanted None (Ok n) wants = wants
+wanted None (Err fault) wants = one_more wants

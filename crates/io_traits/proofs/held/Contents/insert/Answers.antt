@@ -1,4 +1,3 @@
-use Rattle.std.proofs.Common.{sym, ◌∙◌}
 use Rattle.io_traits.proofs.Places.{insert_over, insert_gap, IsInOrder-insert}
 use Rattle.io_traits.proofs.held.Contents.insert.Goals as goal
 
