@@ -1,5 +1,5 @@
 -- What a search among files in order finds, and what a change at that place makes of them.
-use Rattle.std.proofs.Common.{◌≡◌, ℕ, zero, suc, ◌+◌, ◌<◌, Bool, true, false, T, List, [], ◌∷◌, length, get_or, set, Some, None, Ok, Err, Result, MatchResult, refl, sym, ap, subst, ◌∙◌, arith, ◌&&◌}
+use Rattle.std.proofs.Common.{map, ◌≡◌, ℕ, zero, suc, ◌+◌, ◌<◌, Bool, true, false, T, List, [], ◌∷◌, length, get_or, set, Some, None, Ok, Err, Result, MatchResult, refl, sym, ap, subst, ◌∙◌, arith, ◌&&◌}
 use Rattle.std.specs.declared.cmp.Ordering.{Ordering}
 use Rattle.std.specs.declared.cmp.Ordering.TheVariants.{Less, Equal, Greater}
 use Rattle.std.specs.Ordering.{is_lt, ordering_index, ordering_reverse}
@@ -12,7 +12,7 @@ use Rattle.std.specs.List.{AllByRecursion, IsAllAdjacentAnswer}
 use Rattle.std.specs.Prelude.{◌↔◌, IsTrue}
 use mathlib.Core.Bool.{false≢true}
 use Rattle.std.specs.List.Sorted.{IsStrictlySortedBy, IsSearchInRange, IsBinarySearchResult, IsNonDecreasingBy}
-use Rattle.std.proofs.lemmas.List.{get_or-map, length-map}
+use Rattle.std.proofs.lemmas.List.{get_or-map, length-map, map-id}
 use Rattle.std.proofs.lemmas.List.Sorted.{searchable_from_sorted}
 use Rattle.std.proofs.lemmas.Map.Keys.{Less-from_sorted, sorted_from_all_adjacent}
 use Rattle.io_traits.specs.Files.{File, Files, byte_order, get, insert, remove, names, IsInOrder}
@@ -33,19 +33,23 @@ turned_greater a b e = order.antisymm b a ∙ ap ordering_reverse e
 
 -- ---- a search
 
--- in order, the file at an earlier place has the lesser name
-pub rises : (files : Files) → IsInOrder (names files) → (i j : ℕ) (d : File) → i < j → j < length files → byte_order (get_or files i d).0 (get_or files j d).0 ≡ Less
-rises files sorted i j d lt within =
-    let name_of = λ (file : File). file.0 in
-    let long : j < length (names files) = simp length-map within in
-    subst (λ a. byte_order a (get_or files j d).0 ≡ Less) (get_or-map name_of files i d d.0 (omega arith))
-    (subst (λ b. byte_order (get_or (names files) i d.0) b ≡ Less) (get_or-map name_of files j d d.0 within)
-    (Less-from_sorted byte_order (names files) i j d.0 sorted lt long))
+-- in order by a key, the key at an earlier place is less
+pub rises : {X : Type 0} (key : X → List ℕ) (xs : List X) → IsInOrder (map key xs) → (i j : ℕ) (d : X) → i < j → j < length xs → byte_order (key (get_or xs i d)) (key (get_or xs j d)) ≡ Less
+rises key xs sorted i j d lt within =
+    let long : j < length (map key xs) = simp length-map within in
+    subst (λ a. byte_order a (key (get_or xs j d)) ≡ Less) (get_or-map key xs i d (key d) (omega arith))
+    (subst (λ b. byte_order (get_or (map key xs) i (key d)) b ≡ Less) (get_or-map key xs j d (key d) within)
+    (Less-from_sorted byte_order (map key xs) i j (key d) sorted lt long))
+
+-- the order of files by their names
+module _ (files : Files) (sorted : IsInOrder (names files)) where
+  files_rise : (i j : ℕ) (d : File) → i < j → j < length files → byte_order (get_or files i d).0 (get_or files j d).0 ≡ Less
+  files_rise = rises (λ (file : File). file.0) files sorted
 
 module _ (files : Files) (sorted : IsInOrder (names files)) (name : List ℕ) where
   -- the comparisons with the name rise along the files, as a binary search asks
   comparisons_rise : IsNonDecreasingBy (λ file. ordering_index (byte_order file.0 name)) files
-  comparisons_rise = searchable_from_sorted order (λ file. file.0) files name (λ k d low lt. ap is_lt (turned_less (get_or files k d).0 (get_or files (k + 1) d).0 (rises files sorted k (k + 1) d (omega arith) lt)))
+  comparisons_rise = searchable_from_sorted order (λ file. file.0) files name (λ k d low lt. ap is_lt (turned_less (get_or files k d).0 (get_or files (k + 1) d).0 (files_rise files sorted k (k + 1) d (omega arith) lt)))
 
   -- a binary search ends at the name's place, or in the gap for it
   pub searched : (r : Result ℕ ℕ) → IsSearchInRange r (length files) → IsBinarySearchResult (λ file. byte_order file.0 name) files r → MatchResult r (IsAt files name) (IsGap files name)
@@ -54,8 +58,8 @@ module _ (files : Files) (sorted : IsInOrder (names files)) (name : List ℕ) wh
       record {
         in_range = within;
         has_name = named;
-        before = λ j d lt. subst (λ n. byte_order (get_or files j d).0 n ≡ Less) (named d) (rises files sorted j i d lt within);
-        behind = λ j d lt end. subst (λ n. byte_order (get_or files j d).0 n ≡ Greater) (named d) (turned_less (get_or files i d).0 (get_or files j d).0 (rises files sorted i j d lt end));
+        before = λ j d lt. subst (λ n. byte_order (get_or files j d).0 n ≡ Less) (named d) (files_rise files sorted j i d lt within);
+        behind = λ j d lt end. subst (λ n. byte_order (get_or files j d).0 n ≡ Greater) (named d) (turned_less (get_or files i d).0 (get_or files j d).0 (files_rise files sorted i j d lt end));
       }
   searched (Err i) within parted =
       let parts = parted comparisons_rise in
@@ -197,20 +201,26 @@ IsInOrder-remove files name sorted = from_test _ (entries.is_sorted-where_key by
 
 -- ---- a test of the order, pair by pair
 
--- a test that answers for each two neighbours whether the first name is less says whether all names rise
-pub in_order_from_adjacent : (files : Files) (r : Bool) → IsAllAdjacentAnswer (λ a b answer. answer ≡ is_lt (byte_order a.0 b.0)) files r → IsTrue r ↔ IsInOrder (names files)
-in_order_from_adjacent files true all = (
-  λ yes. sorted_from_all_adjacent order (names files) [] (λ k lt.
-      let within : k + 1 < length files = simp length-map at lt in
-      let name_of = λ (file : File). file.0 in
-      let here = get_or-map name_of files k ([], []) [] (omega arith) in
-      let next = get_or-map name_of files (k + 1) ([], []) [] within in
-      rw (here, next) (less _ (subst T (all k ([], []) within) tt))),
+-- a test that answers for each two neighbours whether the first key is less says whether all keys rise
+pub in_order_from_adjacent : {X : Type 0} (key : X → List ℕ) (xs : List X) (r : Bool) → IsAllAdjacentAnswer (λ a b answer. answer ≡ is_lt (byte_order (key a) (key b))) xs r → IsTrue r ↔ IsInOrder (map key xs)
+unfolding IsStrictlySortedBy
+in_order_from_adjacent key [] true all = (λ yes. tt, λ sorted. refl)
+in_order_from_adjacent key [] false some = absurd (omega (arith, some.1))
+in_order_from_adjacent key (x ∷ xs) true all = (
+  λ yes. sorted_from_all_adjacent order (map key (x ∷ xs)) [] (λ k lt.
+      let within : k + 1 < length (x ∷ xs) = simp length-map at lt in
+      let here = get_or-map key (x ∷ xs) k x [] (omega arith) in
+      let next = get_or-map key (x ∷ xs) (k + 1) x [] within in
+      rw (here, next) (less _ (subst T (all k x within) tt))),
   λ sorted. refl,
 )
-in_order_from_adjacent files false some = (
+in_order_from_adjacent key (x ∷ xs) false some = (
   λ no. absurd (false≢true no),
   λ sorted.
-      let rising = rises files sorted some.0 (some.0 + 1) ([], []) (omega arith) some.1 in
-      absurd (false≢true (some.2 ([], []) ∙ ap is_lt rising)),
+      let rising = rises key (x ∷ xs) sorted some.0 (some.0 + 1) x (omega arith) some.1 in
+      absurd (false≢true (some.2 x ∙ ap is_lt rising)),
 )
+
+-- the same of names themselves
+pub names_in_order : (ns : List (List ℕ)) (r : Bool) → IsAllAdjacentAnswer (λ a b answer. answer ≡ is_lt (byte_order a b)) ns r → IsTrue r ↔ IsInOrder ns
+names_in_order ns r answer = subst (λ ms. IsTrue r ↔ IsInOrder ms) (map-id ns) (in_order_from_adjacent (λ (n : List ℕ). n) ns r answer)

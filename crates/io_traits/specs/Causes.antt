@@ -7,9 +7,13 @@ use Rattle.io_traits.specs.declared.faults.IoFault.TheVariants.{Failed}
 abbrev pub last_count : ℕ
 last_count = 2 ^ 64 - 1
 
+-- a count with one more, which stands still at its last value
+abbrev pub one_more : ℕ → ℕ
+one_more count = min (count + 1) last_count
+
 -- the count rose, or stands at its last value
 abbrev pub Rose : ℕ → ℕ → Type 0
-Rose before now = min (before + 1) last_count ≤ now
+Rose before now = one_more before ≤ now
 
 -- the count never falls, and a failure is answered only where it rose
 pub record HasCause {T : Type 0} (before now : ℕ) (result : Result T IoFault) : Type 0 where

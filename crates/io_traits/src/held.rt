@@ -41,7 +41,7 @@ impl Contents {
         ensures files { IfSome result (λ contents. contents ≡ files.items) }
         ensures order { IsSome result ↔ IsInOrder (names files.items) }
     {
-        if is_in_order(&files) {
+        if is_sorted(&files) {
             Some(Contents { files })
         } else {
             None
@@ -131,8 +131,15 @@ impl Contents {
     }
 }
 
-// Whether the names rise in byte order.
-fn is_in_order(files: &[(Path, Bytes)]) -> bool
+/// Whether the names rise in byte order, so that each stands once.
+pub fn is_in_order(names: &[Path]) -> bool
+    ensures { IsTrue result ↔ IsInOrder names.now }
+{
+    names.is_sorted_by(|a, b| a.as_slice().cmp(b.as_slice()).is_lt())
+}
+
+// Whether the names of the files rise in byte order.
+fn is_sorted(files: &[(Path, Bytes)]) -> bool
     ensures { IsTrue result ↔ IsInOrder (names files.now) }
 {
     files.is_sorted_by(|a, b| a.0.as_slice().cmp(b.0.as_slice()).is_lt())

@@ -17,7 +17,7 @@ mod workspaces;
 
 pub use faults::IoFault;
 pub use gates::{Gate, NoGate, Phase};
-pub use held::Contents;
+pub use held::{Contents, is_in_order};
 pub use mem_stores::MemStore;
 pub use mem_streams::{MemSink, MemSource};
 pub use mem_workspaces::MemWorkspace;
@@ -25,3 +25,6 @@ pub use plans::Leaves;
 pub use stores::Store;
 pub use streams::{Sink, Source};
 pub use workspaces::Workspace;
+
+#[cfg(test)]
+mod tests;

@@ -2,7 +2,7 @@
 
 ghost use Rattle.std.specs.Prelude.{◌≡◌, ◌≢◌, ℕ, [], Some, IfOk, IfErr, IfSome, OnOk, OnErr, IsErrOf, IsOk, IsSome, MatchOption};
 ghost use Rattle.io_traits.specs.Files.{Files, get, insert, remove, names, IsInOrder, put_in, take_out, LeftByPut, LeftByRemove};
-ghost use Rattle.io_traits.specs.Planned.{Planned, next_leaves, after_call, left_by_put, left_by_remove};
+ghost use Rattle.io_traits.specs.Planned.{planned, next_leaves, after_call, FailsAsPlanned, left_by_put, left_by_remove};
 ghost use Rattle.io_traits.specs.Causes.{HasCause};
 
 use crate::plans::CallPlan;
@@ -28,7 +28,7 @@ impl MemStore {
         failing: Vec<(u64, Leaves)>,
     ) -> Result<MemStore, IoFault>
         ensures contents { IfOk result (λ store. store.contents ≡ contents) }
-        ensures plan { IfOk result (λ store. store.plan ≡ record { failing = failing.items; calls = 0; faults = 0 }) }
+        ensures plan { IfOk result (λ store. store.plan ≡ planned failing.items) }
         ensures kept { IfOk result (λ store. store.kept ≡ (contents, 0)) }
         ensures only_memory { IfErr result (λ fault. fault ≡ IoFault.Memory) }
     {
@@ -56,7 +56,9 @@ impl MemStore {
 
     // Leaves what a put that fails is to leave.
     fn fail_put(&mut self, leaves: Leaves, name: &Path, bytes: &Bytes) -> Result<(), CopyFault>
-        ensures ok { OnOk result (self.new ≡ record self.old { contents = left_by_put leaves name.now bytes.now self.old.contents }) }
+        ensures ok { OnOk result (self.new ≡ record self.old {
+          contents = left_by_put leaves name.now bytes.now self.old.contents;
+        }) }
         ensures err { OnErr result (self.new ≡ self.old) }
     {
         match leaves {
@@ -71,7 +73,9 @@ impl MemStore {
 
     // Leaves what a removal that fails is to leave.
     fn fail_remove(&mut self, leaves: Leaves, name: &Path)
-        ensures { self.new ≡ record self.old { contents = left_by_remove leaves name.now self.old.contents } }
+        ensures { self.new ≡ record self.old {
+          contents = left_by_remove leaves name.now self.old.contents;
+        } }
     {
         match leaves {
             Leaves::Old => {}
@@ -90,7 +94,7 @@ impl Store for MemStore {
     fn get(&mut self, name: &Path) -> Result<Option<Bytes>, IoFault>
         ensures found { IfOk result (λ found. found ≡ get self.old.contents name.now) }
         ensures state { self.new ≡ record self.old { plan = after_call self.old.plan } }
-        ensures planned { MatchOption (next_leaves self.old.plan) (result ≢ Err IoFault.Failed) (λ _. result ≡ Err IoFault.Failed) }
+        ensures planned { FailsAsPlanned self.old.plan result }
         ensures cause { HasCause self.old.plan.faults self.new.plan.faults result }
     {
         if self.plan.count().is_some() {
@@ -103,10 +107,19 @@ impl Store for MemStore {
     }
 
     fn put(&mut self, name: &Path, bytes: &Bytes) -> Result<(), IoFault>
-        ensures ok { OnOk result (self.new ≡ record self.old { contents = insert self.old.contents name.now bytes.now; plan = after_call self.old.plan }) }
-        ensures memory { IsErrOf result IoFault.Memory → self.new ≡ record self.old { plan = after_call self.old.plan } }
-        ensures failed { IsErrOf result IoFault.Failed → IfSome (next_leaves self.old.plan) (λ leaves. self.new ≡ record self.old { contents = left_by_put leaves name.now bytes.now self.old.contents; plan = after_call self.old.plan }) }
-        ensures planned { MatchOption (next_leaves self.old.plan) (result ≢ Err IoFault.Failed) (λ _. ¬ IsOk result) }
+        ensures ok { OnOk result (self.new ≡ record self.old {
+          contents = insert self.old.contents name.now bytes.now;
+          plan = after_call self.old.plan;
+        }) }
+        ensures memory { IsErrOf result IoFault.Memory →
+            self.new ≡ record self.old { plan = after_call self.old.plan } }
+        ensures failed { IsErrOf result IoFault.Failed →
+            IfSome (next_leaves self.old.plan) (λ leaves. self.new ≡ record self.old {
+              contents = left_by_put leaves name.now bytes.now self.old.contents;
+              plan = after_call self.old.plan;
+            }) }
+        ensures planned { MatchOption (next_leaves self.old.plan)
+            (¬ IsErrOf result IoFault.Failed) (λ _. ¬ IsOk result) }
         ensures cause { HasCause self.old.plan.faults self.new.plan.faults result }
     {
         match self.plan.count() {
@@ -119,8 +132,15 @@ impl Store for MemStore {
     }
 
     fn remove(&mut self, name: &Path) -> Result<(), IoFault>
-        ensures ok { OnOk result (self.new ≡ record self.old { contents = remove self.old.contents name.now; plan = after_call self.old.plan }) }
-        ensures planned { MatchOption (next_leaves self.old.plan) (IsOk result) (λ leaves. (result ≡ Err IoFault.Failed) × (self.new ≡ record self.old { contents = left_by_remove leaves name.now self.old.contents; plan = after_call self.old.plan })) }
+        ensures ok { OnOk result (self.new ≡ record self.old {
+          contents = remove self.old.contents name.now;
+          plan = after_call self.old.plan;
+        }) }
+        ensures planned { MatchOption (next_leaves self.old.plan) (IsOk result)
+            (λ leaves. IsErrOf result IoFault.Failed × (self.new ≡ record self.old {
+              contents = left_by_remove leaves name.now self.old.contents;
+              plan = after_call self.old.plan;
+            })) }
         ensures cause { HasCause self.old.plan.faults self.new.plan.faults result }
     {
         match self.plan.count() {
@@ -139,7 +159,7 @@ impl Store for MemStore {
         ensures order { IfOk result (λ listed. IsInOrder listed.items) }
         ensures all { IfOk result (λ listed. listed.items ≡ names self.old.contents) }
         ensures state { self.new ≡ record self.old { plan = after_call self.old.plan } }
-        ensures planned { MatchOption (next_leaves self.old.plan) (result ≢ Err IoFault.Failed) (λ _. result ≡ Err IoFault.Failed) }
+        ensures planned { FailsAsPlanned self.old.plan result }
         ensures cause { HasCause self.old.plan.faults self.new.plan.faults result }
     {
         if self.plan.count().is_some() {
@@ -149,7 +169,9 @@ impl Store for MemStore {
     }
 
     fn begin(&mut self) -> Result<(), IoFault>
-        ensures ok { OnOk result (self.new ≡ record self.old { kept = (self.old.contents, self.old.plan.faults) }) }
+        ensures ok { OnOk result (self.new ≡ record self.old {
+          kept = (self.old.contents, self.old.plan.faults);
+        }) }
         ensures err { OnErr result (self.new ≡ self.old) }
         ensures only_memory { IfErr result (λ fault. fault ≡ IoFault.Memory) }
     {

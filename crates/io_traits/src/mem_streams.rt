@@ -2,7 +2,7 @@
 
 ghost use Rattle.std.specs.Prelude.{◌≡◌, ◌≢◌, ◌+◌, ◌-◌, ◌<◌, ◌≤◌, [], ◌++◌, length, take, drop, min, map, Some, IfOk, IfErr, OnOk, OnErr, IsErrOf, IsOk, IsErr, MatchOption, IsSome};
 ghost use Rattle.io_traits.specs.Causes.{last_count, HasCause};
-ghost use Rattle.io_traits.specs.Planned.{next_leaves, after_call, wanted};
+ghost use Rattle.io_traits.specs.Planned.{planned, leaving_old, next_leaves, after_call, sink_faults, wanted};
 
 use crate::plans::CallPlan;
 use crate::{IoFault, Leaves, Sink, Source};
@@ -23,7 +23,7 @@ impl MemSource {
     /// The one refusal is `Memory`.
     pub fn new(alloc: Global, bytes: Bytes, failing: Vec<u64>) -> Result<MemSource, IoFault>
         ensures left { IfOk result (λ source. drop source.at source.bytes ≡ bytes) }
-        ensures plan { IfOk result (λ source. source.plan ≡ record { failing = map (λ n. (n, Leaves.Old)) failing.items; calls = 0; faults = 0 }) }
+        ensures plan { IfOk result (λ source. source.plan ≡ planned (leaving_old failing.items)) }
         ensures only_memory { IfErr result (λ fault. fault ≡ IoFault.Memory) }
     {
         Ok(MemSource {
@@ -40,11 +40,15 @@ impl Source for MemSource {
     ghost faults = { λ source. source.plan.faults };
 
     fn read(&mut self, into: &mut [u8]) -> Result<usize, IoFault>
-        ensures full { IfOk result (λ n. n ≡ min (length into.old) (length self.old.bytes - self.old.at)) }
-        ensures given { IfOk result (λ n. drop self.old.at self.old.bytes ≡ take n into.new ++ drop self.new.at self.new.bytes) }
-        ensures err { OnErr result (drop self.new.at self.new.bytes ≡ drop self.old.at self.old.bytes) }
+        ensures full { IfOk result (λ n.
+            n ≡ min (length into.old) (length self.old.bytes - self.old.at)) }
+        ensures given { IfOk result (λ n.
+            drop self.old.at self.old.bytes ≡ take n into.new ++ drop self.new.at self.new.bytes) }
+        ensures err { OnErr result (
+            drop self.new.at self.new.bytes ≡ drop self.old.at self.old.bytes) }
         ensures plan { self.new.plan ≡ after_call self.old.plan }
-        ensures planned { MatchOption (next_leaves self.old.plan) (IsOk result) (λ _. result ≡ Err IoFault.Failed) }
+        ensures planned { MatchOption (next_leaves self.old.plan)
+            (IsOk result) (λ _. IsErrOf result IoFault.Failed) }
         ensures cause { HasCause self.old.plan.faults self.new.plan.faults result }
     {
         if self.plan.count().is_some() {
@@ -73,7 +77,7 @@ impl MemSink {
     /// each once. The one refusal is `Memory`.
     pub fn new(alloc: Global, bytes: Bytes, failing: Vec<u64>) -> Result<MemSink, IoFault>
         ensures bytes { IfOk result (λ sink. sink.bytes.items ≡ bytes) }
-        ensures plan { IfOk result (λ sink. sink.plan ≡ record { failing = map (λ n. (n, Leaves.Old)) failing.items; calls = 0; faults = 0 }) }
+        ensures plan { IfOk result (λ sink. sink.plan ≡ planned (leaving_old failing.items)) }
         ensures wants { IfOk result (λ sink. sink.wants ≡ 0) }
         ensures kept { IfOk result (λ sink. sink.kept ≡ (bytes, 0)) }
         ensures only_memory { IfErr result (λ fault. fault ≡ IoFault.Memory) }
@@ -98,12 +102,14 @@ impl MemSink {
 impl Sink for MemSink {
     ghost got = { λ sink. Some sink.bytes.items };
 
-    ghost faults = { λ sink. min (sink.plan.faults + sink.wants) last_count };
+    ghost faults = { λ sink. sink_faults sink.plan sink.wants };
 
     ghost kept = { λ sink. (Some sink.kept.0, sink.kept.1) };
 
     fn begin(&mut self) -> Result<(), IoFault>
-        ensures ok { OnOk result (self.new ≡ record self.old { kept = (self.old.bytes.items, min (self.old.plan.faults + self.old.wants) last_count) }) }
+        ensures ok { OnOk result (self.new ≡ record self.old {
+          kept = (self.old.bytes.items, sink_faults self.old.plan self.old.wants);
+        }) }
         ensures err { OnErr result (self.new ≡ self.old) }
         ensures only_memory { IfErr result (λ fault. fault ≡ IoFault.Memory) }
     {
@@ -112,7 +118,7 @@ impl Sink for MemSink {
     }
 
     fn faults(&self) -> u64
-        ensures count { result ≡ min (self.now.plan.faults + self.now.wants) last_count }
+        ensures count { result ≡ sink_faults self.now.plan self.now.wants }
         ensures quiet { self.now.plan.failing ≡ [] → result ≡ self.now.wants }
     {
         self.plan.faults().saturating_add(self.wants)
@@ -126,7 +132,8 @@ impl Sink for MemSink {
         ensures plan { self.new.plan ≡ after_call self.old.plan }
         ensures planned { IsSome (next_leaves self.old.plan) → IsErr result }
         ensures wants { self.new.wants ≡ wanted (next_leaves self.old.plan) result self.old.wants }
-        ensures cause { HasCause (min (self.old.plan.faults + self.old.wants) last_count) (min (self.new.plan.faults + self.new.wants) last_count) result }
+        ensures cause { HasCause
+            (sink_faults self.old.plan self.old.wants) (sink_faults self.new.plan self.new.wants) result }
         ensures kept { self.new.kept ≡ self.old.kept }
     {
         if self.plan.count().is_some() {

@@ -3,7 +3,7 @@
 ghost use Rattle.std.specs.Prelude.{◌≡◌, ◌≢◌, [], map, Some, IfOk, IfErr, OnOk, OnErr, MatchOption};
 ghost use Rattle.io_traits.specs.Causes.{HasCause};
 ghost use Rattle.io_traits.specs.Files.{get, names, IsInOrder};
-ghost use Rattle.io_traits.specs.Planned.{next_leaves, after_call, set_to};
+ghost use Rattle.io_traits.specs.Planned.{planned, leaving_old, after_call, FailsAsPlanned, set_to};
 
 use crate::plans::CallPlan;
 use crate::{Contents, IoFault, Leaves, Workspace};
@@ -28,7 +28,7 @@ impl MemWorkspace {
         failing: Vec<u64>,
     ) -> Result<MemWorkspace, IoFault>
         ensures contents { IfOk result (λ workspace. workspace.contents ≡ contents) }
-        ensures plan { IfOk result (λ workspace. workspace.plan ≡ record { failing = map (λ n. (n, Leaves.Old)) failing.items; calls = 0; faults = 0 }) }
+        ensures plan { IfOk result (λ workspace. workspace.plan ≡ planned (leaving_old failing.items)) }
         ensures kept { IfOk result (λ workspace. workspace.kept ≡ (contents, 0)) }
         ensures only_memory { IfErr result (λ fault. fault ≡ IoFault.Memory) }
     {
@@ -43,7 +43,9 @@ impl MemWorkspace {
     /// Sets the bytes at the path, or takes the path away; no other path changes. It is no call of the trait. The
     /// one refusal is `Memory`.
     pub fn set(&mut self, path: &Path, bytes: Option<Bytes>) -> Result<(), IoFault>
-        ensures ok { OnOk result (self.new ≡ record self.old { contents = set_to path.now bytes self.old.contents }) }
+        ensures ok { OnOk result (self.new ≡ record self.old {
+          contents = set_to path.now bytes self.old.contents;
+        }) }
         ensures err { OnErr result (self.new ≡ self.old) }
         ensures only_memory { IfErr result (λ fault. fault ≡ IoFault.Memory) }
     {
@@ -63,7 +65,9 @@ impl Workspace for MemWorkspace {
     ghost kept = { λ workspace. (Some workspace.kept.0, workspace.kept.1) };
 
     fn begin(&mut self) -> Result<(), IoFault>
-        ensures ok { OnOk result (self.new ≡ record self.old { kept = (self.old.contents, self.old.plan.faults) }) }
+        ensures ok { OnOk result (self.new ≡ record self.old {
+          kept = (self.old.contents, self.old.plan.faults);
+        }) }
         ensures err { OnErr result (self.new ≡ self.old) }
         ensures only_memory { IfErr result (λ fault. fault ≡ IoFault.Memory) }
     {
@@ -82,7 +86,7 @@ impl Workspace for MemWorkspace {
         ensures order { IfOk result (λ listed. IsInOrder listed.items) }
         ensures all { IfOk result (λ listed. listed.items ≡ names self.old.contents) }
         ensures state { self.new ≡ record self.old { plan = after_call self.old.plan } }
-        ensures planned { MatchOption (next_leaves self.old.plan) (result ≢ Err IoFault.Failed) (λ _. result ≡ Err IoFault.Failed) }
+        ensures planned { FailsAsPlanned self.old.plan result }
         ensures cause { HasCause self.old.plan.faults self.new.plan.faults result }
     {
         if self.plan.count().is_some() {
@@ -94,7 +98,7 @@ impl Workspace for MemWorkspace {
     fn read(&mut self, name: &Path) -> Result<Option<Bytes>, IoFault>
         ensures found { IfOk result (λ found. found ≡ get self.old.contents name.now) }
         ensures state { self.new ≡ record self.old { plan = after_call self.old.plan } }
-        ensures planned { MatchOption (next_leaves self.old.plan) (result ≢ Err IoFault.Failed) (λ _. result ≡ Err IoFault.Failed) }
+        ensures planned { FailsAsPlanned self.old.plan result }
         ensures cause { HasCause self.old.plan.faults self.new.plan.faults result }
     {
         if self.plan.count().is_some() {

@@ -3,7 +3,7 @@
 ghost use Rattle.std.specs.Prelude.{◌≡◌, ◌≤◌, ◌==◌, [], map, IfOk, IsSome};
 ghost use Rattle.std.specs.Map.{lookup};
 ghost use Rattle.io_traits.specs.Causes.{Rose};
-ghost use Rattle.io_traits.specs.Planned.{next_leaves, after_call};
+ghost use Rattle.io_traits.specs.Planned.{planned, leaving_old, next_leaves, after_call};
 
 use std::alloc::Global;
 use std::marker::Model;
@@ -40,7 +40,7 @@ impl Model for CallPlan {
 
 impl CallPlan {
     pub(crate) fn new(failing: Vec<(u64, Leaves)>) -> CallPlan
-        ensures { result ≡ record { failing = failing.items; calls = 0; faults = 0 } }
+        ensures { result ≡ planned failing.items }
     {
         CallPlan {
             failing,
@@ -51,7 +51,7 @@ impl CallPlan {
 
     // The plan of a device whose failed calls change nothing.
     pub(crate) fn of_numbers(alloc: Global, numbers: &[u64]) -> Result<CallPlan, CopyFault>
-        ensures { IfOk result (λ plan. plan ≡ record { failing = map (λ n. (n, Leaves.Old)) numbers.now; calls = 0; faults = 0 }) }
+        ensures { IfOk result (λ plan. plan ≡ planned (leaving_old numbers.now)) }
     {
         let mut failing = Vec::new(alloc);
         for number in numbers {

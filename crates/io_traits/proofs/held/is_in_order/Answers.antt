@@ -2,9 +2,9 @@ use Rattle.std.proofs.Common.{rules}
 use Rattle.std.proofs.lemmas.Fn.{always_returns_same}
 use Rattle.std.specs.Ordering.{is_lt}
 use Rattle.io_traits.specs.Files.{byte_order}
-use Rattle.io_traits.proofs.Places.{in_order_from_adjacent}
+use Rattle.io_traits.proofs.Places.{names_in_order}
 use Rattle.io_traits.proofs.held.is_in_order.Goals as goal
 
 -- the closure says whether the first name is less
 pub returns : goal.returns
-returns c = in_order_from_adjacent c.args.files.now _ (c.is_sorted_by.ensures.cases (λ a b. is_lt (byte_order a.0 b.0)) (always_returns_same _ _ _ (λ a r g called. search rules)))
+returns c = names_in_order c.args.names.now _ (c.is_sorted_by.ensures.cases (λ a b. is_lt (byte_order a b)) (always_returns_same _ _ _ (λ a r g called. search rules)))
