@@ -2,9 +2,8 @@
 -- what it holds, so its content is optional, and a change of it is an equation that holds either way.
 use Rattle.std.specs.Prelude.{◌≡◌, ℕ, not, ◌⊎◌, List, map, Option}
 use Rattle.std.specs.Option.{option_map}
-use Rattle.std.specs.declared.cmp.Ordering.{Ordering}
-use Rattle.std.specs.Ordering.{nat_cmp, eq_by_cmp}
-use Rattle.std.specs.Cmp.Lexicographic.{slice_cmp}
+use Rattle.std.specs.Ordering.{eq_by_cmp}
+use Rattle.tree_value.specs.Trees.{path_cmp}
 use Rattle.std.specs.List.Sorted.{IsStrictlySortedBy}
 use Rattle.std.specs.FinMap.Entries as entries
 
@@ -15,28 +14,24 @@ File = List ℕ × List ℕ
 abbrev pub Files : Type 0
 Files = List File
 
--- names by their bytes, the first that differs deciding
-abbrev pub byte_order : List ℕ → List ℕ → Ordering
-byte_order = slice_cmp nat_cmp
-
 -- the bytes under a name
 abbrev pub get : Files → List ℕ → Option (List ℕ)
-get files name = entries.find byte_order name files
+get files name = entries.find path_cmp name files
 
 -- the files with these bytes under the name, and all others as they were
 abbrev pub insert : Files → List ℕ → List ℕ → Files
-insert files name bytes = entries.put byte_order name bytes files
+insert files name bytes = entries.put path_cmp name bytes files
 
 -- the files of all other names
 abbrev pub remove : Files → List ℕ → Files
-remove files name = entries.where_key byte_order (λ n. not (eq_by_cmp byte_order name n)) files
+remove files name = entries.where_key path_cmp (λ n. not (eq_by_cmp path_cmp name n)) files
 
 abbrev pub names : Files → List (List ℕ)
 names files = map (λ file. file.0) files
 
 -- the names rise in byte order, so each stands once
 abbrev pub IsInOrder : List (List ℕ) → Type 0
-IsInOrder ns = IsStrictlySortedBy byte_order ns
+IsInOrder ns = IsStrictlySortedBy path_cmp ns
 
 -- the content after a put, and after a removal, where it is told
 abbrev pub put_in : List ℕ → List ℕ → Option Files → Option Files

@@ -125,9 +125,7 @@ impl Contents {
     fn place(&self, name: &Path) -> Result<usize, usize>
         ensures { MatchResult result (IsAt self.now name.now) (IsGap self.now name.now) }
     {
-        let name = name.as_slice();
-        self.files
-            .binary_search_by(|file| file.0.as_slice().cmp(name))
+        self.files.binary_search_by(|file| file.0.cmp(name))
     }
 }
 
@@ -135,14 +133,14 @@ impl Contents {
 pub fn is_in_order(names: &[Path]) -> bool
     ensures { IsTrue result ↔ IsInOrder names.now }
 {
-    names.is_sorted_by(|a, b| a.as_slice().cmp(b.as_slice()).is_lt())
+    names.is_sorted_by(|a, b| a.cmp(b).is_lt())
 }
 
 // Whether the names of the files rise in byte order.
 fn is_sorted(files: &[(Path, Bytes)]) -> bool
     ensures { IsTrue result ↔ IsInOrder (names files.now) }
 {
-    files.is_sorted_by(|a, b| a.0.as_slice().cmp(b.0.as_slice()).is_lt())
+    files.is_sorted_by(|a, b| a.0.cmp(&b.0).is_lt())
 }
 
 fn copy_names(alloc: Global, files: &[(Path, Bytes)]) -> Result<Vec<Path>, CopyFault>
