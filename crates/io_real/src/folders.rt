@@ -25,7 +25,8 @@ pub struct Folder<R: Files + AllocGlobal + Clone + Drop> {
 /// What stands at a place, links followed.
 #[derive(Clone, Copy, Debug, PartialEq, Eq)]
 pub(crate) enum Found {
-    File,
+    /// A file, with its size in bytes.
+    File(u64),
     Folder,
     Nothing,
 }
@@ -49,7 +50,7 @@ impl<R: Files + AllocGlobal + Clone + Drop> Folder<R> {
     pub(crate) fn look(&self, place: &str) -> Result<Found, IoFault> {
         match fs::metadata(&self.rt, place) {
             Ok(found) if found.is_dir() => Ok(Found::Folder),
-            Ok(found) if found.is_file() => Ok(Found::File),
+            Ok(found) if found.is_file() => Ok(Found::File(found.len())),
             Ok(_) => Ok(Found::Nothing),
             Err(e) if is_absence(&e) => Ok(Found::Nothing),
             Err(e) => Err(fault_of(e)),
@@ -60,7 +61,8 @@ impl<R: Files + AllocGlobal + Clone + Drop> Folder<R> {
     pub(crate) fn read(&self, name: &Path) -> Result<Option<Bytes>, IoFault> {
         let place = self.place(text_of(name)?)?;
         match self.look(place.as_str())? {
-            Found::File => self.read_file(place.as_str()),
+            Found::File(size) if size > MAX_FILE_LEN => Err(IoFault::Failed),
+            Found::File(_) => self.read_file(place.as_str()),
             Found::Folder | Found::Nothing => Ok(None),
         }
     }
@@ -112,9 +114,9 @@ impl<R: Files + AllocGlobal + Clone + Drop> Folder<R> {
     pub(crate) fn remove(&self, name: &Path) -> Result<(), IoFault> {
         let name = text_of(name)?;
         let place = self.place(name)?;
-        if self.look(place.as_str())? != Found::File {
+        let Found::File(_) = self.look(place.as_str())? else {
             return Ok(());
-        }
+        };
         match fs::remove_file(&self.rt, place.as_str()) {
             Ok(()) => self.remove_empty(name),
             Err(e) if is_absence(&e) => Ok(()),

@@ -76,8 +76,8 @@ impl<R: Files + AllocGlobal + Clone + Drop> Folder<R> {
         let name = self.below(folder, entry)?;
         let place = self.place(name.as_str())?;
         match self.look(place.as_str())? {
-            Found::File => walk.add(self.path_of(name.as_str())?),
-            Found::Folder if !leaves_out.hides(name.as_bytes()) => Ok(
+            Found::File(_) => walk.add(self.path_of(name.as_str())?),
+            Found::Folder if !leaves_out.hides(folder, entry) => Ok(
                 walk.folders.push(self.path_of(name.as_str())?)?,
             ),
             Found::Folder | Found::Nothing => Ok(()),
@@ -103,10 +103,10 @@ impl<R: Files + AllocGlobal + Clone + Drop> Folder<R> {
 }
 
 impl LeavesOut {
-    fn hides(self, folder: &[u8]) -> bool {
+    fn hides(self, folder: &str, entry: &str) -> bool {
         match self {
-            LeavesOut::Puts => is_put_folder(folder),
-            LeavesOut::NoSources => is_no_source(folder),
+            LeavesOut::Puts => is_put_folder(folder.as_bytes(), entry.as_bytes()),
+            LeavesOut::NoSources => is_no_source(folder.as_bytes(), entry.as_bytes()),
         }
     }
 }

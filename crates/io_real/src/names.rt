@@ -1,37 +1,43 @@
 //! Which names an adapter leaves out.
 
+ghost use Rattle.std.specs.Prelude.{◌≡◌, ◌↔◌, nat_eq, codes, IsTrue};
+ghost use Rattle.std.specs.List.{starts_with};
+ghost use Rattle.io_real.specs.Names.{IsPutFolder, IsNoSource};
+
 // Whether the name is of a file in the folder in which a put writes its bytes first.
-pub(crate) fn is_for_puts(name: &[u8]) -> bool {
+pub(crate) fn is_for_puts(name: &[u8]) -> bool
+    ensures { result ≡ starts_with nat_eq name.now (codes ".put/") }
+{
     name.starts_with(b".put/")
 }
 
-// Whether a store's listing leaves the folder out: the one for puts.
-pub(crate) fn is_put_folder(folder: &[u8]) -> bool {
-    folder == b".put".as_slice()
+// Whether a store leaves out an entry of a folder: the folder for puts in the root.
+pub(crate) fn is_put_folder(folder: &[u8], entry: &[u8]) -> bool
+    ensures { IsTrue result ↔ IsPutFolder folder.now entry.now }
+{
+    folder.is_empty() && entry == b".put".as_slice()
 }
 
-// Whether a workspace leaves the folder out: the one of the results, and those whose name begins with a dot.
-pub(crate) fn is_no_source(folder: &[u8]) -> bool {
-    if folder == b"out".as_slice() {
-        return true;
-    }
-    let mut is_first = true;
-    let mut begins_with_dot = false;
-    for byte in folder {
-        if is_first {
-            begins_with_dot = *byte == b'.';
-        }
-        is_first = *byte == b'/';
-    }
-    begins_with_dot
+// Whether a workspace leaves out an entry of a folder that is itself a folder: the one of the results in the root,
+// and each whose name begins with a dot.
+pub(crate) fn is_no_source(folder: &[u8], entry: &[u8]) -> bool
+    ensures { IsTrue result ↔ IsNoSource folder.now entry.now }
+{
+    folder.is_empty() && entry == b"out".as_slice() || entry.starts_with(b".")
 }
 
-// Whether a workspace leaves the file out, since one of the folders on the way to it is left out.
+// Whether a workspace leaves the file out, since it leaves out a folder on the way to it.
 pub(crate) fn is_hidden(name: &[u8]) -> bool {
-    for (i, byte) in name.iter().enumerate() {
-        if *byte == b'/' && is_no_source(&name[..i]) {
-            return true;
+    let mut before: Option<&[u8]> = None;
+    let mut above = b"".as_slice();
+    for segment in name.split(|byte| *byte == b'/') {
+        if let Some(folder) = before {
+            if is_no_source(above, folder) {
+                return true;
+            }
+            above = folder;
         }
+        before = Some(segment);
     }
     false
 }

@@ -1,0 +1,11 @@
+-- Which folders an adapter leaves out, by the folder in which they stand, empty for the root, and their name there.
+use Rattle.std.specs.Prelude.{◌≡◌, ◌⊎◌, ℕ, List, length, nat_eq, codes, IsTrue}
+use Rattle.std.specs.List.{starts_with}
+
+-- the folder in which a store puts bytes first
+abbrev pub IsPutFolder : List ℕ → List ℕ → Type 0
+IsPutFolder folder entry = (length folder ≡ 0) × (entry ≡ codes ".put")
+
+-- what is no source of a build: the results, and folders whose name begins with a dot
+abbrev pub IsNoSource : List ℕ → List ℕ → Type 0
+IsNoSource folder entry = ((length folder ≡ 0) × (entry ≡ codes "out")) ⊎ IsTrue (starts_with nat_eq entry (codes "."))
