@@ -9,3 +9,11 @@ IsPutFolder folder entry = (length folder ≡ 0) × (entry ≡ codes ".put")
 -- what is no source of a build: the results, and folders whose name begins with a dot
 abbrev pub IsNoSource : List ℕ → List ℕ → Type 0
 IsNoSource folder entry = ((length folder ≡ 0) × (entry ≡ codes "out")) ⊎ IsTrue (starts_with nat_eq entry (codes "."))
+
+-- the name of a file in the folder in which a store puts bytes first
+abbrev pub IsForPuts : List ℕ → Type 0
+IsForPuts name = IsTrue (starts_with nat_eq name (codes ".put/"))
+
+-- the name of a file of the results
+abbrev pub IsOfResults : List ℕ → Type 0
+IsOfResults name = IsTrue (starts_with nat_eq name (codes "out/"))

@@ -1,7 +1,9 @@
 //! The files below a root folder.
 
+ghost use Rattle.std.specs.Prelude.{◌≡◌, ◌<◌, length, IsErrOf};
+
 use crate::counts::{fault_of, is_absence};
-use crate::names::{folder_of, is_for_puts};
+use crate::names::folder_of;
 use io_traits::IoFault;
 use std::alloc::AllocError;
 use std::fs;
@@ -82,11 +84,14 @@ impl<R: Files + AllocGlobal + Clone + Drop> Folder<R> {
     }
 
     /// Writes the bytes to a file in the folder for puts, and renames it to its place.
-    pub(crate) fn put(&self, name: &Path, bytes: &Bytes) -> Result<(), IoFault> {
-        let name = text_of(name)?;
-        if name.is_empty() || is_for_puts(name.as_bytes()) || bytes.len() as u64 > MAX_FILE_LEN {
+    pub(crate) fn put(&self, name: &Path, bytes: &Bytes) -> Result<(), IoFault>
+        ensures no_name { length name.now ≡ 0 → IsErrOf result IoFault.Failed }
+        ensures large { MAX_FILE_LEN < length bytes.now → IsErrOf result IoFault.Failed }
+    {
+        if name.as_slice().is_empty() || bytes.len() as u64 > MAX_FILE_LEN {
             return Err(IoFault::Failed);
         }
+        let name = text_of(name)?;
         let first = self.place(".put/file")?;
         self.make_folder(".put")?;
         fs::write(&self.rt, first.as_str(), bytes.as_slice()).map_err(fault_of)?;

@@ -1,12 +1,11 @@
 //! Which names an adapter leaves out.
 
-ghost use Rattle.std.specs.Prelude.{◌≡◌, ◌↔◌, nat_eq, codes, IsTrue};
-ghost use Rattle.std.specs.List.{starts_with};
-ghost use Rattle.io_real.specs.Names.{IsPutFolder, IsNoSource};
+ghost use Rattle.std.specs.Prelude.{◌↔◌, IsTrue};
+ghost use Rattle.io_real.specs.Names.{IsForPuts, IsPutFolder, IsNoSource, IsOfResults};
 
 // Whether the name is of a file in the folder in which a put writes its bytes first.
 pub(crate) fn is_for_puts(name: &[u8]) -> bool
-    ensures { result ≡ starts_with nat_eq name.now (codes ".put/") }
+    ensures { IsTrue result ↔ IsForPuts name.now }
 {
     name.starts_with(b".put/")
 }
@@ -27,17 +26,20 @@ pub(crate) fn is_no_source(folder: &[u8], entry: &[u8]) -> bool
 }
 
 // Whether a workspace leaves the file out, since it leaves out a folder on the way to it.
-pub(crate) fn is_hidden(name: &[u8]) -> bool {
-    let mut before: Option<&[u8]> = None;
-    let mut above = b"".as_slice();
+pub(crate) fn is_hidden(name: &[u8]) -> bool
+    ensures { IsOfResults name.now → IsTrue result }
+{
+    name.starts_with(b"out/") || has_dot_folder(name)
+}
+
+// Whether the name of a folder on the way to the file begins with a dot.
+fn has_dot_folder(name: &[u8]) -> bool {
+    let mut folder: Option<&[u8]> = None;
     for segment in name.split(|byte| *byte == b'/') {
-        if let Some(folder) = before {
-            if is_no_source(above, folder) {
-                return true;
-            }
-            above = folder;
+        if folder.is_some_and(|name| name.starts_with(b".")) {
+            return true;
         }
-        before = Some(segment);
+        folder = Some(segment);
     }
     false
 }

@@ -1,12 +1,13 @@
 //! The store over the files of a root folder.
 
-ghost use Rattle.std.specs.Prelude.{◌≡◌, None, IfOk, IfErr, IsOk};
+ghost use Rattle.std.specs.Prelude.{◌≡◌, ◌<◌, length, None, IfOk, IfErr, IsOk, IsErrOf};
 ghost use Rattle.io_traits.specs.Causes.{HasCause};
 ghost use Rattle.io_traits.specs.Files.{IsInOrder};
 ghost use Rattle.io_real.specs.Counts.{settled, kept_now, no_faults};
+ghost use Rattle.io_real.specs.Names.{IsForPuts};
 
 use crate::counts::FaultCount;
-use crate::folders::Folder;
+use crate::folders::{Folder, MAX_FILE_LEN};
 use crate::listings::LeavesOut;
 use crate::names::is_for_puts;
 use io_traits::{IoFault, Store};
@@ -48,6 +49,7 @@ impl<R: Files + AllocGlobal + Clone + Drop> Store for RealStore<R> {
     ghost kept = { λ store. (None, store.count.kept) };
 
     fn get(&mut self, name: &Path) -> Result<Option<Bytes>, IoFault>
+        ensures for_puts { IsForPuts name.now → IsErrOf result IoFault.Failed }
         ensures count { self.new.count ≡ settled result self.old.count }
         ensures cause { HasCause self.old.count.now self.new.count.now result }
     {
@@ -60,6 +62,9 @@ impl<R: Files + AllocGlobal + Clone + Drop> Store for RealStore<R> {
     }
 
     fn put(&mut self, name: &Path, bytes: &Bytes) -> Result<(), IoFault>
+        ensures for_puts { IsForPuts name.now → IsErrOf result IoFault.Failed }
+        ensures no_name { length name.now ≡ 0 → IsErrOf result IoFault.Failed }
+        ensures large { MAX_FILE_LEN < length bytes.now → IsErrOf result IoFault.Failed }
         ensures count { self.new.count ≡ settled result self.old.count }
         ensures cause { HasCause self.old.count.now self.new.count.now result }
     {
@@ -72,6 +77,7 @@ impl<R: Files + AllocGlobal + Clone + Drop> Store for RealStore<R> {
     }
 
     fn remove(&mut self, name: &Path) -> Result<(), IoFault>
+        ensures for_puts { IsForPuts name.now → IsErrOf result IoFault.Failed }
         ensures count { self.new.count ≡ settled result self.old.count }
         ensures cause { HasCause self.old.count.now self.new.count.now result }
     {

@@ -1,6 +1,7 @@
 //! Standard input and standard output.
 
 ghost use Rattle.std.specs.Prelude.{◌≡◌, ◌<◌, ◌≤◌, length, None, IfOk, IsOk, IsErrOf};
+ghost use Rattle.std.specs.Io.KnownBytes.{ReadConsumes, WriteAppends};
 ghost use Rattle.io_traits.specs.Causes.{HasCause};
 ghost use Rattle.io_real.specs.Counts.{settled, kept_now, no_faults};
 
@@ -33,6 +34,8 @@ impl<I: Read + Drop> Source for RealSource<I> {
 
     fn read(&mut self, into: &mut [u8]) -> Result<usize, IoFault>
         ensures within { IfOk result (λ n. n ≤ length into.old) }
+        ensures bytes { ReadConsumes
+            (I.remaining self.old.input) (I.remaining self.new.input) result into.new }
         ensures count { self.new.count ≡ settled result self.old.count }
         ensures cause { HasCause self.old.count.now self.new.count.now result }
     {
@@ -43,9 +46,10 @@ impl<I: Read + Drop> Source for RealSource<I> {
 
 // Tries again where a signal interrupts the call.
 fn read_once<I: Read>(input: &mut I, into: &mut [u8]) -> Result<usize, IoFault>
-    ensures { IfOk result (λ n. n ≤ length into.old) }
+    ensures within { IfOk result (λ n. n ≤ length into.old) }
+    ensures bytes { ReadConsumes (I.remaining input.old) (I.remaining input.new) result into.new }
 {
-    for _ in 0..u64::MAX {
+    'tries: for _ in 0..u64::MAX {
         match input.read(into) {
             Ok(n) => return Ok(n),
             Err(e) if e.kind() == ErrorKind::Interrupted => {}
@@ -98,6 +102,8 @@ impl<O: Write + Drop> Sink for RealSink<O> {
         ensures within { IfOk result (λ n. n ≤ length bytes.now) }
         ensures some { IfOk result (λ n. 0 < length bytes.now → 0 < n) }
         ensures never_memory { ¬ IsErrOf result IoFault.Memory }
+        ensures bytes { WriteAppends
+            (O.contents self.old.output) (O.contents self.new.output) result bytes.now }
         ensures count { self.new.count ≡ settled result self.old.count }
         ensures cause { HasCause self.old.count.now self.new.count.now result }
     {
@@ -112,11 +118,12 @@ fn write_once<O: Write>(output: &mut O, bytes: &[u8]) -> Result<usize, IoFault>
     ensures within { IfOk result (λ n. n ≤ length bytes.now) }
     ensures some { IfOk result (λ n. 0 < length bytes.now → 0 < n) }
     ensures never_memory { ¬ IsErrOf result IoFault.Memory }
+    ensures bytes { WriteAppends (O.contents output.old) (O.contents output.new) result bytes.now }
 {
     if bytes.is_empty() {
         return Ok(0);
     }
-    for _ in 0..u64::MAX {
+    'tries: for _ in 0..u64::MAX {
         match output.write(bytes) {
             Ok(0) => return Err(IoFault::Failed),
             Ok(n) => return Ok(n),

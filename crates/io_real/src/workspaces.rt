@@ -4,6 +4,7 @@ ghost use Rattle.std.specs.Prelude.{◌≡◌, None, IfOk, IfErr, IsOk};
 ghost use Rattle.io_traits.specs.Causes.{HasCause};
 ghost use Rattle.io_traits.specs.Files.{IsInOrder};
 ghost use Rattle.io_real.specs.Counts.{settled, kept_now, no_faults};
+ghost use Rattle.io_real.specs.Names.{IsOfResults};
 
 use crate::counts::FaultCount;
 use crate::folders::Folder;
@@ -69,6 +70,7 @@ impl<R: Files + AllocGlobal + Clone + Drop> Workspace for RealWorkspace<R> {
     }
 
     fn read(&mut self, name: &Path) -> Result<Option<Bytes>, IoFault>
+        ensures results { IsOfResults name.now → result ≡ Ok None }
         ensures count { self.new.count ≡ settled result self.old.count }
         ensures cause { HasCause self.old.count.now self.new.count.now result }
     {
