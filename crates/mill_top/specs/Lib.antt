@@ -1,0 +1,9 @@
+pub mod SmallFiles
+pub mod Words
+pub mod Builds
+pub mod Scratch
+pub mod Inputs
+pub mod Entries
+pub mod Takes
+pub mod Replies
+pub mod Standing
