@@ -1,1 +1,2 @@
 pub mod SmallFileLaws
+pub mod BuildLaws

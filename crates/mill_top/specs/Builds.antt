@@ -1,5 +1,5 @@
 -- The class files of a workspace, and which builds are read so far.
-use Rattle.std.specs.Prelude.{Bool, true, false, not, ℕ, List, [], ◌∷◌, ◌++◌, ◌&&◌, if◌then◌else◌, nat_eq, Option, Some, None, MatchOption, codes}
+use Rattle.std.specs.Prelude.{Bool, true, false, not, ℕ, List, [], ◌∷◌, ◌++◌, ◌&&◌, if◌then◌else◌, nat_eq, Option, Some, None, slice_get, codes}
 use Rattle.std.specs.Option.{option_map, option_or}
 use Rattle.std.specs.List.{filter, find, starts_with, ends_with}
 use Rattle.std.specs.Str.{bytes_eq}
@@ -24,16 +24,14 @@ abbrev pub is_in_place : List ℕ → Option SmallFile → Bool
 is_in_place path (Some class_file) = bytes_eq path (class_path class_file.class)
 is_in_place path None = false
 
--- the path of the second file
-abbrev pub second_path : Files → Option (List ℕ)
-second_path (first ∷ second ∷ rest) = Some second.0
-second_path _ = None
+-- the first class file that is not a small file in its place
+abbrev pub first_out_of_place : Files → Option File
+first_out_of_place files = find (λ file. is_class_path file.0 && not (is_in_place file.0 (small_of file.1))) files
 
--- the file for which these class files are no build yet: the first that is not a small file in its place, or else
--- the second of all
-abbrev pub not_built : Files → Option (List ℕ)
-not_built classes =
-    option_or (option_map (λ file. file.0) (find (λ file. not (is_in_place file.0 (small_of file.1))) classes)) (second_path classes)
+-- The path for which the files are no build yet: that of the first class file that is not a small file in its place,
+-- or else that of the second of all class files.
+unfoldable pub not_built : Files → Option (List ℕ)
+not_built files = option_map (λ file. file.0) (option_or (first_out_of_place files) (slice_get (class_files files) 1))
 
 -- a small file, where the task is its own
 abbrev pub if_has : List ℕ → Option SmallFile → Option SmallFile
@@ -41,6 +39,9 @@ if_has task (Some class_file) = if bytes_eq task (class_file.task ∷ []) then S
 if_has task None = None
 
 -- the small file that has the task: the one class file, where it is such
-abbrev pub task_in : Files → List ℕ → Option SmallFile
-task_in (file ∷ []) task = if_has task (small_of file.1)
-task_in _ task = None
+abbrev pub task_among : Files → List ℕ → Option SmallFile
+task_among (file ∷ []) task = if_has task (small_of file.1)
+task_among _ task = None
+
+unfoldable pub task_in : Files → List ℕ → Option SmallFile
+task_in files task = task_among (class_files files) task

@@ -26,7 +26,7 @@ whole_row inputs = nets (codes "W" ∷ paths_and_bytes (class_files inputs.files
 
 -- the name of the class that has the task
 abbrev pub class_of : Record → List ℕ → List ℕ
-class_of inputs task = option_map_or (λ class_file. class_file.class ∷ []) (task_in (class_files inputs.files) task) []
+class_of inputs task = option_map_or (λ class_file. class_file.class ∷ []) (task_in inputs.files task) []
 
 -- the text behind the hash of a task's method
 unfoldable pub method_text : Record → List ℕ → List ℕ

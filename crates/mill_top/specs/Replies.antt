@@ -8,7 +8,7 @@ use Rattle.mill_top.specs.declared.recorded.Record.{Record}
 use Rattle.mill_top.specs.declared.reply.Reply.{Reply}
 use Rattle.mill_top.specs.declared.reply.Reply.TheVariants.{Value, WordsNotBuilt, FileNotBuilt, NoTask, StoreFault, WorkspaceFault, Memory}
 use Rattle.mill_top.specs.Words.{asked}
-use Rattle.mill_top.specs.Builds.{class_files, not_built}
+use Rattle.mill_top.specs.Builds.{not_built}
 use Rattle.mill_top.specs.Scratch.{scratch}
 
 abbrev pub status : Reply → ℕ
@@ -45,4 +45,4 @@ build_reply None reply = reply
 
 -- the reply that evaluation from scratch gives over a record, whose words ask for the task
 abbrev pub reply_of : Record → List ℕ → Reply
-reply_of inputs task = build_reply (not_built (class_files inputs.files)) (outcome_reply task (scratch inputs task))
+reply_of inputs task = build_reply (not_built inputs.files) (outcome_reply task (scratch inputs task))

@@ -6,8 +6,8 @@ use Rattle.mill_top.specs.declared.outcome.Outcome.{Outcome}
 use Rattle.mill_top.specs.declared.outcome.Outcome.TheVariants.{Returns}
 use Rattle.mill_top.specs.declared.recorded.Record.{Record}
 use Rattle.mill_top.specs.SmallFiles.{constant}
-use Rattle.mill_top.specs.Builds.{class_files, task_in}
+use Rattle.mill_top.specs.Builds.{task_in}
 
 -- the outcome of a task's method over a record: a small file's returns its constant and logs nothing
 abbrev pub scratch : Record → List ℕ → Option Outcome
-scratch inputs task = option_map (λ class_file. Returns (constant class_file.opcode) []) (task_in (class_files inputs.files) task)
+scratch inputs task = option_map (λ class_file. Returns (constant class_file.opcode) []) (task_in inputs.files task)

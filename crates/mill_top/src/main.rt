@@ -1,8 +1,10 @@
 //! The program `mill`.
 #![tactic(auto)]
 
+mod builds;
 mod class_file;
 mod entry;
+mod inputs;
 mod outcome;
 mod recorded;
 mod reply;

@@ -1,0 +1,92 @@
+//! The input hash of a task.
+
+ghost use Rattle.std.specs.Prelude.{◌≡◌, ◌++◌, ◌∷◌, [], Some, IfOk, OnOk, codes};
+ghost use Rattle.mill_top.specs.Builds.{task_in};
+ghost use Rattle.mill_top.specs.Inputs.{net, whole_row, method_text, input_text, input_hash};
+
+use crate::builds::is_class_path;
+use crate::class_file::SmallFile;
+use crate::recorded::Record;
+use sha2::{Digest as _, Sha256};
+use std::alloc::{AllocError, Global};
+use tree_value::Digest;
+
+#[tactic(auto, unfolding(crate::specs::Inputs::net))]
+fn push_net(text: &mut Vec<u8>, alloc: Global, field: &[u8]) -> Result<(), AllocError>
+    ensures { OnOk result (text.new.items ≡ text.old.items ++ net field.now) }
+{
+    let len = field.len().to_string(alloc)?;
+    text.extend_from_slice(len.as_bytes())?;
+    text.extend_from_slice(b":")?;
+    text.extend_from_slice(field)?;
+    text.extend_from_slice(b",")?;
+    Ok(())
+}
+
+#[tactic(auto, unfolding(crate::specs::Inputs::whole_row))]
+fn whole_row(alloc: Global, inputs: &Record) -> Result<Vec<u8>, AllocError>
+    ensures { IfOk result (λ text. text.items ≡ whole_row inputs.now) }
+{
+    let mut text = Vec::new(alloc);
+    push_net(&mut text, alloc, b"W")?;
+    for file in inputs.files.as_slice() {
+        if is_class_path(file.0.as_slice()) {
+            push_net(&mut text, alloc, file.0.as_slice())?;
+            push_net(&mut text, alloc, file.1.as_slice())?;
+        }
+    }
+    Ok(text)
+}
+
+#[tactic(auto, unfolding(crate::specs::Inputs::method_text))]
+fn method_text(
+    alloc: Global,
+    inputs: &Record,
+    class_file: SmallFile,
+) -> Result<Vec<u8>, AllocError>
+    requires { task_in inputs.now.files (class_file.task ∷ []) ≡ Some class_file }
+    ensures { IfOk result (λ text. text.items ≡ method_text inputs.now (class_file.task ∷ [])) }
+{
+    let row = whole_row(alloc, inputs)?;
+    let mut text = Vec::new(alloc);
+    push_net(&mut text, alloc, b"method1")?;
+    push_net(&mut text, alloc, &[class_file.class])?;
+    push_net(&mut text, alloc, &[class_file.task])?;
+    push_net(&mut text, alloc, b"()I")?;
+    push_net(&mut text, alloc, row.as_slice())?;
+    Ok(text)
+}
+
+#[tactic(auto, unfolding(crate::specs::Inputs::input_text))]
+fn input_text(
+    alloc: Global,
+    inputs: &Record,
+    class_file: SmallFile,
+) -> Result<Vec<u8>, AllocError>
+    requires { task_in inputs.now.files (class_file.task ∷ []) ≡ Some class_file }
+    ensures { IfOk result (λ text. text.items ≡ input_text inputs.now (class_file.task ∷ [])) }
+{
+    let method = Sha256::digest(method_text(alloc, inputs, class_file)?.as_slice());
+    let hash = hex::encode(alloc, method)?;
+    let mut text = Vec::new(alloc);
+    push_net(&mut text, alloc, b"input1")?;
+    push_net(&mut text, alloc, &[class_file.task])?;
+    push_net(&mut text, alloc, b"cached")?;
+    push_net(&mut text, alloc, b"10000000")?;
+    push_net(&mut text, alloc, hash.as_bytes())?;
+    Ok(text)
+}
+
+/// The input hash of the small file's task.
+#[tactic(auto, unfolding(crate::specs::Inputs::input_hash))]
+pub fn input_hash(
+    alloc: Global,
+    inputs: &Record,
+    class_file: SmallFile,
+) -> Result<Digest, AllocError>
+    requires { task_in inputs.now.files (class_file.task ∷ []) ≡ Some class_file }
+    ensures { IfOk result (λ hash. hash ≡ input_hash inputs.now (class_file.task ∷ [])) }
+{
+    let text = input_text(alloc, inputs, class_file)?;
+    Ok(Digest::of(Sha256::digest(text.as_slice())))
+}
