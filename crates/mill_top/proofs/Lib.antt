@@ -1,2 +1,5 @@
 pub mod SmallFileLaws
 pub mod BuildLaws
+pub mod SendingLaws
+pub mod ReadingLaws
+pub mod EntryLaws

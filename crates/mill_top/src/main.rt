@@ -6,8 +6,10 @@ mod class_file;
 mod entry;
 mod inputs;
 mod outcome;
+mod reading;
 mod recorded;
 mod reply;
+mod sending;
 mod takes;
 mod words;
 

@@ -1,5 +1,9 @@
 //! The reply to a command.
 
+ghost use Rattle.std.specs.Prelude.{◌≡◌, ◌++◌, ◌∷◌, [], IfOk};
+ghost use Rattle.mill_top.specs.Replies.{status, line, printed};
+
+use std::alloc::{AllocError, Global};
 use tree_value::{Path, Text};
 
 /// What a command is answered.
@@ -19,4 +23,52 @@ pub enum Reply {
     WorkspaceFault,
     /// Memory was wanted and not there.
     Memory,
+}
+
+fn joined(alloc: Global, front: &[u8], back: &[u8]) -> Result<Vec<u8>, AllocError>
+    ensures { IfOk result (λ text. text.items ≡ front.now ++ back.now) }
+{
+    let mut text = Vec::from_slice(alloc, front)?;
+    text.extend_from_slice(back)?;
+    Ok(text)
+}
+
+impl Reply {
+    /// The status that the process ends with.
+    pub fn status(&self) -> u8
+        ensures { result ≡ status self.now }
+    {
+        match self {
+            Reply::Value(_) => 0,
+            Reply::WordsNotBuilt | Reply::NoTask(_) => 2,
+            Reply::FileNotBuilt(_) => 3,
+            Reply::StoreFault => 4,
+            Reply::WorkspaceFault => 5,
+            Reply::Memory => 6,
+        }
+    }
+
+    fn line(&self, alloc: Global) -> Result<Vec<u8>, AllocError>
+        ensures { IfOk result (λ text. text.items ≡ line self.now) }
+    {
+        match self {
+            Reply::Value(value) => joined(alloc, b"", value.to_string(alloc)?.as_bytes()),
+            Reply::WordsNotBuilt => joined(alloc, b"not built: words", b""),
+            Reply::FileNotBuilt(path) => joined(alloc, b"not built: ", path.as_slice()),
+            Reply::NoTask(task) => joined(alloc, b"no task: ", task.as_slice()),
+            Reply::StoreFault => joined(alloc, b"store fault", b""),
+            Reply::WorkspaceFault => joined(alloc, b"workspace fault", b""),
+            Reply::Memory => joined(alloc, b"memory", b""),
+        }
+    }
+
+    /// What is printed where this is the one reply.
+    #[tactic(auto, unfolding(crate::specs::Replies::printed))]
+    pub fn printed(&self, alloc: Global) -> Result<Vec<u8>, AllocError>
+        ensures { IfOk result (λ text. text.items ≡ printed (self.now ∷ [])) }
+    {
+        let mut text = self.line(alloc)?;
+        text.extend_from_slice(b"\n")?;
+        Ok(text)
+    }
 }

@@ -1,0 +1,45 @@
+//! Reading a workspace.
+
+ghost use Rattle.std.specs.Prelude.{◌≡◌, ◌++◌, List, ℕ, Option, IfOk, IfSome, OnOk};
+ghost use Rattle.io_traits.specs.Causes.{HasCause};
+ghost use Rattle.io_traits.specs.Files.{get};
+ghost use Rattle.mill_top.specs.Scratch.{file_of};
+
+use io_traits::{Contents, IoFault, Workspace};
+use std::alloc::Global;
+use tree_value::{Bytes, Path};
+
+// Adds the file of this name, if it is still there.
+fn add_file<W: Workspace>(
+    workspace: &mut W,
+    name: &Path,
+    files: &mut Vec<(Path, Bytes)>,
+) -> Result<(), IoFault>
+    ensures added { OnOk result ((found : Option (List ℕ)) × IfSome (W.content workspace.old) (λ told. found ≡ get told name.now) × (files.new.items ≡ files.old.items ++ file_of name.now found)) }
+    ensures content { W.content workspace.new ≡ W.content workspace.old }
+    ensures cause { HasCause (W.faults workspace.old) (W.faults workspace.new) result }
+    ensures kept { W.kept workspace.new ≡ W.kept workspace.old }
+{
+    match workspace.read(name)? {
+        Some(bytes) => {
+            files.push((name.copy()?, bytes))?;
+            Ok(())
+        }
+        None => Ok(()),
+    }
+}
+
+/// All files of the workspace. One that is listed and gone when it is read is left out.
+pub fn read_files<W: Workspace>(alloc: Global, workspace: &mut W) -> Result<Contents, IoFault>
+    ensures files { IfOk result (λ files. IfSome (W.content workspace.old) (λ told. files ≡ told)) }
+    ensures content { W.content workspace.new ≡ W.content workspace.old }
+    ensures cause { HasCause (W.faults workspace.old) (W.faults workspace.new) result }
+    ensures kept { W.kept workspace.new ≡ W.kept workspace.old }
+{
+    let names = workspace.list()?;
+    let mut files = Vec::new(alloc);
+    for name in &names {
+        add_file(workspace, name, &mut files)?;
+    }
+    Ok(Contents::from_vec(files))
+}
