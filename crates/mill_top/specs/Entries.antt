@@ -1,5 +1,5 @@
 -- The entry of a task in the folder of results, and its log.
-use Rattle.std.specs.Prelude.{◌≡◌, ℕ, ℤ, List, ◌++◌, codes, Option, Some, FitsSigned}
+use Rattle.std.specs.Prelude.{◌≡◌, ℕ, ℤ, List, ◌++◌, codes, Option, Some, None, FitsSigned}
 use Rattle.std.specs.Int.{w32}
 use Rattle.std.specs.Fmt.{signed_decimal}
 use Rattle.hex.specs.Hex.{encode_lower}
@@ -29,3 +29,8 @@ pub record IsWellFormed (entry : Entry) : Type 0 where
 pub record Reads (task : List ℕ) (found : Option (List ℕ)) (entry : Entry) : Type 0 where
   pub form : IsWellFormed entry
   pub text : found ≡ Some (entry_text task entry)
+
+-- the entry that reads there, if one does
+abbrev pub IsFound : List ℕ → Option (List ℕ) → Option Entry → Type 0
+IsFound task found None = (entry : Entry) → Reads task found entry → ⊥
+IsFound task found (Some entry) = Reads task found entry

@@ -7,3 +7,5 @@ pub mod Entries
 pub mod Takes
 pub mod Replies
 pub mod Standing
+pub mod Out
+pub mod Answers

@@ -33,16 +33,30 @@ line Memory = codes "memory"
 unfoldable pub printed : List Reply → List ℕ
 printed replies = flat_map (λ reply. line reply ++ 10 ∷ []) replies
 
--- the reply of a task's outcome
-abbrev pub outcome_reply : List ℕ → Option Outcome → Reply
-outcome_reply task (Some (Returns value log)) = Value value
-outcome_reply task None = NoTask task
+-- why a record is refused: the file for which its files are no build yet, or else that it has no such task
+abbrev pub refusal_by : List ℕ → Option (List ℕ) → Option Outcome → Option Reply
+refusal_by task (Some path) outcome = Some (FileNotBuilt path)
+refusal_by task None None = Some (NoTask task)
+refusal_by task None (Some outcome) = None
 
--- the reply of a build, or of the file for which it is none yet
-abbrev pub build_reply : Option (List ℕ) → Reply → Reply
-build_reply (Some path) reply = FileNotBuilt path
-build_reply None reply = reply
+abbrev pub refusal : Record → List ℕ → Option Reply
+refusal inputs task = refusal_by task (not_built inputs.files) (scratch inputs task)
 
--- the reply that evaluation from scratch gives over a record, whose words ask for the task
-abbrev pub reply_of : Record → List ℕ → Reply
-reply_of inputs task = build_reply (not_built inputs.files) (outcome_reply task (scratch inputs task))
+abbrev pub reply_by : List ℕ → Option (List ℕ) → Option Outcome → Reply
+reply_by task (Some path) outcome = FileNotBuilt path
+reply_by task None None = NoTask task
+reply_by task None (Some (Returns value log)) = Value value
+
+abbrev pub words_reply : Record → Option (List ℕ) → Reply
+words_reply inputs None = WordsNotBuilt
+words_reply inputs (Some task) = reply_by task (not_built inputs.files) (scratch inputs task)
+
+-- the reply that evaluation from scratch over a record gives to its words
+unfoldable pub reply_of : Record → Reply
+reply_of inputs = words_reply inputs (asked inputs.words)
+
+-- The sink that had `before` has all that is printed for the replies, and the status is that of the last; or it has a
+-- front part of it, and the status is 7.
+pub data Shown (before after : Option (List ℕ)) (reply : Reply) : ℕ → Type 0 where
+  whole : Got before after (printed (reply ∷ [])) → Shown before after reply (status reply)
+  part : (n : ℕ) → Got before after (take n (printed (reply ∷ []))) → Shown before after reply 7

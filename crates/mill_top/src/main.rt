@@ -4,6 +4,7 @@
 mod builds;
 mod class_file;
 mod entry;
+mod evaluating;
 mod inputs;
 mod outcome;
 mod reading;

@@ -1,5 +1,9 @@
 //! Why tasks were run or reused.
 
+ghost use Rattle.std.specs.Prelude.{◌≡◌, ◌∷◌, [], IfOk};
+
+
+use std::alloc::{AllocError, Global};
 use std::marker::Model;
 use tree_value::{Digest, Text};
 
@@ -27,4 +31,31 @@ impl Model for Takes {
     ghost Value = { List (List ℕ × Found) };
 
     ghost view = { λ takes. takes.items.items };
+}
+
+impl Takes {
+    /// No task.
+    pub fn none(alloc: Global) -> Takes
+        ensures { result ≡ [] }
+    {
+        Takes {
+            items: Vec::new(alloc),
+        }
+    }
+
+    /// One task.
+    pub fn one(alloc: Global, task: Text, found: Found) -> Result<Takes, AllocError>
+        ensures { IfOk result (λ takes. takes ≡ (task, found) ∷ []) }
+    {
+        let mut items = Vec::new(alloc);
+        items.push((task, found))?;
+        Ok(Takes { items })
+    }
+
+    /// The tasks in the order in which they were taken.
+    pub fn as_slice(&self) -> &[(Text, Found)]
+        ensures { result.now ≡ self.now }
+    {
+        &self.items
+    }
 }
