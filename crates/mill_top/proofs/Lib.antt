@@ -3,3 +3,5 @@ pub mod BuildLaws
 pub mod SendingLaws
 pub mod ReadingLaws
 pub mod EntryLaws
+pub mod TaskLaws
+pub mod PathLaws

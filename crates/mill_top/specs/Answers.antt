@@ -1,16 +1,20 @@
 -- What a command is answered, and when.
-use Rattle.std.specs.Prelude.{◌≡◌, ◌⊎◌, ℕ, ℤ, List, [], ◌∷◌, ◌++◌, Option, Some, None, IfSome, IfNone, MatchOption, flat_map}
+use Rattle.std.specs.Prelude.{◌≡◌, ◌⊎◌, ◌≤◌, ℕ, ℤ, List, [], ◌∷◌, ◌++◌, Option, Some, None, IfSome, IfNone, MatchOption, flat_map}
 use Rattle.std.specs.List.{AllByRecursion}
 use Rattle.io_traits.specs.Causes.{Rose}
 use Rattle.io_traits.specs.Files.{Files}
+use Rattle.mill_top.specs.declared.entry.Entry.{Entry}
+use Rattle.mill_top.specs.declared.outcome.Outcome.{Outcome}
+use Rattle.mill_top.specs.declared.outcome.Outcome.TheVariants.{Returns}
 use Rattle.mill_top.specs.declared.recorded.Record.{Record}
 use Rattle.mill_top.specs.declared.reply.Reply.{Reply}
 use Rattle.mill_top.specs.declared.reply.Reply.TheVariants.{Value, WordsNotBuilt, StoreFault, WorkspaceFault, Memory}
 use Rattle.mill_top.specs.declared.takes.Found.{Found}
+use Rattle.mill_top.specs.declared.takes.Found.TheVariants.{Same}
 use Rattle.mill_top.specs.Words.{asked}
 use Rattle.mill_top.specs.Inputs.{Run, texts, Clean}
 use Rattle.mill_top.specs.Takes.{IsWhy, Gives, runs_of}
-use Rattle.mill_top.specs.Out.{after_takes, MayLeave}
+use Rattle.mill_top.specs.Out.{log_of, with_run, MayLeaveRun, after_takes, MayLeave}
 use Rattle.mill_top.specs.Replies.{refusal, reply_of}
 
 -- the reply is this one, or memory was wanted
@@ -72,3 +76,23 @@ IsFromScratch inputs reply = (reply ≡ reply_of inputs) ⊎ IsUnlessMemory repl
 -- the pair that a device keeps is as it was, or its content and count at entry
 abbrev pub IsKept : {T : Type 0} → (before after : T × ℕ) → T → ℕ → Type 0
 IsKept before after content count = (after ≡ before) ⊎ (after ≡ (content, count))
+
+-- The reply where an entry is reused, or memory was wanted before the task was taken.
+abbrev pub IsReuse : List ℕ → Entry → Reply → List (List ℕ × Found) → Type 0
+IsReuse task entry reply takes =
+    ((reply ≡ Value entry.value) × (takes ≡ (task, Same entry.input) ∷ [])) ⊎ ((reply ≡ Memory) × (takes ≡ []))
+
+-- The reply where an outcome was kept, or not.
+pub record IsKeptRun (task input : List ℕ) (outcome : Outcome) (before now : ℕ) (old new : Option Files) (reply : Reply) : Type 0 where
+  pub evaluated : IsEvaluation reply
+  pub later : before ≤ now
+  pub cause : reply ≡ StoreFault → Rose before now
+  pub value : (value : ℤ) → reply ≡ Value value → outcome ≡ Returns value (log_of outcome)
+  pub out : (value : ℤ) → reply ≡ Value value → new ≡ with_run task input outcome old
+  pub left : MayLeaveRun task input outcome old new
+
+-- The reply where a task was run, or memory was wanted before it was taken.
+abbrev pub IsRun : List ℕ → List ℕ → Found → Outcome → (before now : ℕ) → (old new : Option Files) → Reply → List (List ℕ × Found) → Type 0
+IsRun task input found outcome before now old new reply takes =
+    (IsKeptRun task input outcome before now old new reply × (takes ≡ (task, found) ∷ []))
+    ⊎ ((now ≡ before) × (new ≡ old) × (reply ≡ Memory) × (takes ≡ []))

@@ -34,3 +34,8 @@ pub record Reads (task : List ℕ) (found : Option (List ℕ)) (entry : Entry) :
 abbrev pub IsFound : List ℕ → Option (List ℕ) → Option Entry → Type 0
 IsFound task found None = (entry : Entry) → Reads task found entry → ⊥
 IsFound task found (Some entry) = Reads task found entry
+
+-- the names under which a task's entry and its log stand
+pub record IsNamed (task entry log : List ℕ) : Type 0 where
+  pub entry_is : entry ≡ entry_name task
+  pub log_is : log ≡ log_name task

@@ -57,6 +57,7 @@ reply_of inputs = words_reply inputs (asked inputs.words)
 
 -- The sink that had `before` has all that is printed for the replies, and the status is that of the last; or it has a
 -- front part of it, and the status is 7.
-pub data Shown (before after : Option (List ℕ)) (reply : Reply) : ℕ → Type 0 where
-  whole : Got before after (printed (reply ∷ [])) → Shown before after reply (status reply)
-  part : (n : ℕ) → Got before after (take n (printed (reply ∷ []))) → Shown before after reply 7
+abbrev pub Shown : (before after : Option (List ℕ)) → Reply → ℕ → Type 0
+Shown before after reply status_now =
+    ((status_now ≡ status reply) × Got before after (printed (reply ∷ [])))
+    ⊎ ((status_now ≡ 7) × ((n : ℕ) × Got before after (take n (printed (reply ∷ [])))))

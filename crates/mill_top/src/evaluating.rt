@@ -7,12 +7,14 @@ ghost use Rattle.io_traits.specs.Files.{get, put_in, LeftByPut};
 ghost use Rattle.mill_top.specs.declared.entry.Entry.{Entry};
 ghost use Rattle.mill_top.specs.declared.takes.Found.{Found};
 ghost use Rattle.mill_top.specs.Builds.{task_in, not_built};
-ghost use Rattle.mill_top.specs.Entries.{entry_name, log_name, entry_text, Reads, IsFound};
+ghost use Rattle.mill_top.specs.Entries.{entry_name, log_name, entry_text, Reads, IsFound, IsNamed};
 ghost use Rattle.mill_top.specs.Inputs.{input_hash};
 ghost use Rattle.mill_top.specs.Scratch.{scratch};
 ghost use Rattle.mill_top.specs.Takes.{found_of};
 ghost use Rattle.mill_top.specs.Out.{with_run, MayLeaveRun, entry_of, log_of};
-ghost use Rattle.mill_top.specs.Answers.{IsAnswer, IsEvaluation};
+ghost use Rattle.mill_top.specs.SmallFiles.{constant};
+ghost use Rattle.mill_top.specs.Answers.{IsAnswer, IsEvaluation, IsReuse, IsKeptRun, IsRun};
+ghost use Rattle.tree_value.specs.Paths.{IsPath};
 
 use crate::class_file::SmallFile;
 use crate::entry::Entry;
@@ -109,4 +111,99 @@ fn publish<S: Store>(
 {
     store.put(log_name, log)?;
     store.put(entry_name, entry)
+}
+
+// The name of a file of the task.
+fn file_name(alloc: Global, task: &Text, ending: &[u8]) -> Result<Path, CopyFault>
+    requires { IsPath (task.now ++ ending.now) }
+    ensures { IfOk result (λ name. name ≡ task.now ++ ending.now) }
+{
+    let mut bytes = Vec::from_slice(alloc, task.as_slice())?;
+    bytes.extend_from_slice(ending)?;
+    match Path::of(alloc, bytes.as_slice()) {
+        Ok(path) => Ok(path),
+        Err(PathFault::Memory) => Err(CopyFault::Memory),
+        Err(PathFault::BadPath) => unreachable!(),
+    }
+}
+
+fn prepare(
+    alloc: Global,
+    inputs: &Record,
+    class_file: SmallFile,
+    task: &Text,
+) -> Result<Job, CopyFault>
+    requires { task_in inputs.now.files task.now ≡ Some class_file }
+    ensures task { IfOk result (λ job. job.task ≡ task.now) }
+    ensures input { IfOk result (λ job. job.input ≡ input_hash inputs.now task.now) }
+    ensures names { IfOk result (λ job. IsNamed job.task job.entry job.log) }
+{
+    Ok(Job {
+        task: task.copy()?,
+        input: input_hash(alloc, inputs, class_file)?,
+        entry: file_name(alloc, task, b".json")?,
+        log: file_name(alloc, task, b".log")?,
+    })
+}
+
+// The entry is reused: its value is the reply.
+fn reuse(alloc: Global, task: Text, input: Digest, value: i32) -> Taken
+    ensures { IsReuse task (record { input = input; value = value }) result.reply result.takes }
+{
+    match Takes::one(alloc, task, Found::Same(input)) {
+        Ok(takes) => Taken {
+            reply: Reply::Value(value),
+            takes,
+        },
+        Err(_) => Taken::none(alloc, Reply::Memory),
+    }
+}
+
+// The value and the log of a run are kept, and the value is the reply.
+fn keep<S: Store>(alloc: Global, job: &Job, value: i32, log: &Bytes, store: &mut S) -> Reply
+    requires { IsNamed job.now.task job.now.entry job.now.log }
+    ensures run { IsKeptRun job.now.task job.now.input (Outcome.Returns value log.now) (S.faults store.old) (S.faults store.new) (S.content store.old) (S.content store.new) result }
+    ensures kept { S.kept store.new ≡ S.kept store.old }
+{
+    let entry = Entry {
+        input: job.input,
+        value,
+    };
+    match entry.text(alloc, job.task.as_slice()) {
+        Ok(text) => match publish(store, &job.log, log, &job.entry, &Bytes::from_vec(text)) {
+            Ok(()) => Reply::Value(value),
+            Err(fault) => store_reply(fault),
+        },
+        Err(_) => Reply::Memory,
+    }
+}
+
+// The task is run.
+fn run_task<S: Store>(
+    alloc: Global,
+    job: &Job,
+    class_file: SmallFile,
+    found: Found,
+    store: &mut S,
+) -> Taken
+    requires { IsNamed job.now.task job.now.entry job.now.log }
+    ensures taken { IsRun job.now.task job.now.input found (Outcome.Returns (constant class_file.opcode) []) (S.faults store.old) (S.faults store.new) (S.content store.old) (S.content store.new) result.reply result.takes }
+    ensures kept { S.kept store.new ≡ S.kept store.old }
+{
+    match one_take(alloc, &job.task, found) {
+        Ok(takes) => {
+            let Outcome::Returns(value, log) = run(alloc, class_file);
+            Taken {
+                reply: keep(alloc, job, value, &log, store),
+                takes,
+            }
+        }
+        Err(_) => Taken::none(alloc, Reply::Memory),
+    }
+}
+
+fn one_take(alloc: Global, task: &Text, found: Found) -> Result<Takes, CopyFault>
+    ensures { IfOk result (λ takes. takes ≡ (task.now, found) ∷ []) }
+{
+    Ok(Takes::one(alloc, task.copy()?, found)?)
 }
