@@ -5,3 +5,4 @@ pub mod ReadingLaws
 pub mod EntryLaws
 pub mod TaskLaws
 pub mod PathLaws
+pub mod AnswerLaws

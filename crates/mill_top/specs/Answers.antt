@@ -1,8 +1,8 @@
 -- What a command is answered, and when.
-use Rattle.std.specs.Prelude.{◌≡◌, ◌⊎◌, ◌≤◌, ℕ, ℤ, List, [], ◌∷◌, ◌++◌, Option, Some, None, IfSome, IfNone, MatchOption, flat_map}
+use Rattle.std.specs.Prelude.{◌≡◌, ◌≢◌, ◌⊎◌, ◌≤◌, ℕ, ℤ, List, [], ◌∷◌, ◌++◌, Option, Some, None, IfSome, IfNone, MatchOption, flat_map}
 use Rattle.std.specs.List.{AllByRecursion}
 use Rattle.io_traits.specs.Causes.{Rose}
-use Rattle.io_traits.specs.Files.{Files}
+use Rattle.io_traits.specs.Files.{Files, get}
 use Rattle.mill_top.specs.declared.entry.Entry.{Entry}
 use Rattle.mill_top.specs.declared.outcome.Outcome.{Outcome}
 use Rattle.mill_top.specs.declared.outcome.Outcome.TheVariants.{Returns}
@@ -12,8 +12,9 @@ use Rattle.mill_top.specs.declared.reply.Reply.TheVariants.{Value, WordsNotBuilt
 use Rattle.mill_top.specs.declared.takes.Found.{Found}
 use Rattle.mill_top.specs.declared.takes.Found.TheVariants.{Same}
 use Rattle.mill_top.specs.Words.{asked}
+use Rattle.mill_top.specs.Entries.{entry_name, Reads}
 use Rattle.mill_top.specs.Inputs.{Run, texts, Clean}
-use Rattle.mill_top.specs.Takes.{IsWhy, Gives, runs_of}
+use Rattle.mill_top.specs.Takes.{Why, IsNew, IsWhy, Gives, runs_of}
 use Rattle.mill_top.specs.Out.{log_of, with_run, MayLeaveRun, after_takes, MayLeave}
 use Rattle.mill_top.specs.Replies.{refusal, reply_of}
 
@@ -95,4 +96,34 @@ pub record IsKeptRun (task input : List ℕ) (outcome : Outcome) (before now : �
 abbrev pub IsRun : List ℕ → List ℕ → Found → Outcome → (before now : ℕ) → (old new : Option Files) → Reply → List (List ℕ × Found) → Type 0
 IsRun task input found outcome before now old new reply takes =
     (IsKeptRun task input outcome before now old new reply × (takes ≡ (task, found) ∷ []))
-    ⊎ ((now ≡ before) × (new ≡ old) × (reply ≡ Memory) × (takes ≡ []))
+    ⊎ ((new ≡ old) × (reply ≡ Memory) × (takes ≡ []))
+
+-- The reply where nothing was taken.
+pub record IsNothing (before now : ℕ) (old new : Option Files) (reply : Reply) (takes : List (List ℕ × Found)) : Type 0 where
+  pub evaluated : IsEvaluation reply
+  pub no_value : (value : ℤ) → reply ≢ Value value
+  pub cause : reply ≡ StoreFault → Rose before now
+  pub none_taken : takes ≡ []
+  pub same : new ≡ old
+
+-- an entry of this input hash reads in the content
+pub record HasEntry (task input : List ℕ) (content : Option Files) (entry : Entry) : Type 0 where
+  pub same_input : entry.input ≡ input
+  pub reads : IfSome content (λ files. Reads task (get files (entry_name task)) entry)
+
+-- what was found is the reason to run
+pub record IsReason (task input : List ℕ) (content : Option Files) (found : Found) : Type 0 where
+  pub new : IsNew found
+  pub why : IfSome content (λ files. Why task input (get files (entry_name task)) found)
+
+-- The reply to a task that is looked at: nothing is taken, or its entry is reused, or it is run.
+abbrev pub IsTake : List ℕ → List ℕ → Outcome → (before now : ℕ) → (old new : Option Files) → Reply → List (List ℕ × Found) → Type 0
+IsTake task input outcome before now old new reply takes =
+    IsNothing before now old new reply takes
+    ⊎ (((entry : Entry) × HasEntry task input old entry × (new ≡ old) × IsReuse task entry reply takes)
+    ⊎ ((found : Found) × IsReason task input old found × IsRun task input found outcome before now old new reply takes))
+
+-- the answer to words that ask for a task
+abbrev pub IsAnswerTo : List (List ℕ) → Record → (before now : ℕ) → (old new : Option Files) → Reply → List (List ℕ × Found) → Type 0
+IsAnswerTo words inputs before now old new reply takes =
+    (task : List ℕ) × (asked words ≡ Some task) × IsAnswer inputs task before now old new reply takes

@@ -1,6 +1,5 @@
 -- Why a task was run or reused.
-use Rattle.std.specs.Prelude.{◌≡◌, ◌≢◌, ℕ, ℤ, List, [], ◌∷◌, ◌++◌, Option, Some, None, IfSome, if◌then◌else◌}
-use Rattle.std.specs.Str.{bytes_eq}
+use Rattle.std.specs.Prelude.{◌≡◌, ◌≢◌, ℕ, ℤ, List, [], ◌∷◌, ◌++◌, Option, Some, None, IfSome}
 use Rattle.io_traits.specs.Files.{Files, get}
 use Rattle.mill_top.specs.declared.entry.Entry.{Entry}
 use Rattle.mill_top.specs.declared.takes.Found.{Found}
@@ -18,6 +17,11 @@ abbrev pub Why : List ℕ → List ℕ → Option (List ℕ) → Found → Type 
 Why task input found Missing = (entry : Entry) → Reads task found entry → ⊥
 Why task input found (Other other) = (other ≢ input) × ((entry : Entry) × Reads task found entry × (entry.input ≡ other))
 Why task input found (Same same) = (same ≡ input) × ((entry : Entry) × Reads task found entry × (entry.input ≡ same))
+
+-- no entry is reused
+abbrev pub IsNew : Found → Type 0
+IsNew (Same input) = ⊥
+IsNew found = Unit {0}
 
 -- the same of a store that tells its content, for a task and what was found
 abbrev pub IsWhy : Record → Option Files → List ℕ × Found → Type 0
@@ -39,8 +43,3 @@ run_of inputs task found (Some outcome) = record { inputs = inputs; task = task 
 abbrev pub runs_of : Record → List (List ℕ × Found) → List Run
 runs_of inputs [] = []
 runs_of inputs (take ∷ takes) = run_of inputs take.0 take.1 (scratch inputs take.0) ++ runs_of inputs takes
-
--- what is found of a task with this input hash, where this entry reads
-abbrev pub found_of : Option Entry → List ℕ → Found
-found_of None input = Missing
-found_of (Some entry) input = if bytes_eq entry.input input then Same input else Other entry.input

@@ -1,19 +1,19 @@
 //! Taking a task: its entry is reused, or it is run and its log and entry are kept.
 
-ghost use Rattle.std.specs.Prelude.{◌≡◌, ◌≢◌, ◌⊎◌, ◌≤◌, ◌∷◌, ◌++◌, [], ℕ, ℤ, Some, None, Option, IfOk, IfSome, OnOk, OnErr, MatchOption, codes, length};
+ghost use Rattle.std.specs.Prelude.{◌≡◌, ◌≢◌, ◌⊎◌, ◌≤◌, ◌∷◌, ◌++◌, [], ℕ, ℤ, Some, None, Option, IfOk, IfSome, OnOk, OnErr, MatchOption, codes, length, FitsSigned};
+ghost use Rattle.std.specs.Int.{w32};
 ghost use Rattle.std.specs.List.{AllByRecursion};
 ghost use Rattle.io_traits.specs.Causes.{Rose, HasCause};
 ghost use Rattle.io_traits.specs.Files.{get, put_in, LeftByPut};
 ghost use Rattle.mill_top.specs.declared.entry.Entry.{Entry};
 ghost use Rattle.mill_top.specs.declared.takes.Found.{Found};
 ghost use Rattle.mill_top.specs.Builds.{task_in, not_built};
-ghost use Rattle.mill_top.specs.Entries.{entry_name, log_name, entry_text, Reads, IsFound, IsNamed};
+ghost use Rattle.mill_top.specs.Entries.{entry_name, log_name, entry_text, Reads, IsFound, IsNamed, IsWellFormed};
 ghost use Rattle.mill_top.specs.Inputs.{input_hash};
 ghost use Rattle.mill_top.specs.Scratch.{scratch};
-ghost use Rattle.mill_top.specs.Takes.{found_of};
 ghost use Rattle.mill_top.specs.Out.{with_run, MayLeaveRun, entry_of, log_of};
 ghost use Rattle.mill_top.specs.SmallFiles.{constant};
-ghost use Rattle.mill_top.specs.Answers.{IsAnswer, IsEvaluation, IsReuse, IsKeptRun, IsRun};
+ghost use Rattle.mill_top.specs.Answers.{IsAnswer, IsEvaluation, IsReuse, IsKeptRun, IsRun, IsTake};
 ghost use Rattle.tree_value.specs.Paths.{IsPath};
 
 use crate::class_file::SmallFile;
@@ -75,6 +75,7 @@ fn look<S: Store>(
     task: &Text,
 ) -> Result<Option<Entry>, IoFault>
     requires { length task.now ≤ 64 }
+    ensures formed { IfOk result (λ found. IfSome found IsWellFormed) }
     ensures found { IfOk result (λ found. IfSome (S.content store.old) (λ files. IsFound task.now (get files name.now) found)) }
     ensures content { S.content store.new ≡ S.content store.old }
     ensures cause { HasCause (S.faults store.old) (S.faults store.new) result }
@@ -83,16 +84,6 @@ fn look<S: Store>(
     match store.get(name)? {
         Some(bytes) => Ok(Entry::read(alloc, task.as_slice(), bytes.as_slice())?),
         None => Ok(None),
-    }
-}
-
-fn found_of(entry: Option<Entry>, input: Digest) -> Found
-    ensures { result ≡ found_of entry input }
-{
-    match entry {
-        None => Found::Missing,
-        Some(entry) if entry.input == input => Found::Same(input),
-        Some(entry) => Found::Other(entry.input),
     }
 }
 
@@ -147,12 +138,13 @@ fn prepare(
 }
 
 // The entry is reused: its value is the reply.
-fn reuse(alloc: Global, task: Text, input: Digest, value: i32) -> Taken
-    ensures { IsReuse task (record { input = input; value = value }) result.reply result.takes }
+fn reuse(alloc: Global, task: &Text, entry: Entry) -> Taken
+    requires { FitsSigned w32 entry.value }
+    ensures { IsReuse task.now entry result.reply result.takes }
 {
-    match Takes::one(alloc, task, Found::Same(input)) {
+    match one_take(alloc, task, Found::Same(entry.input)) {
         Ok(takes) => Taken {
-            reply: Reply::Value(value),
+            reply: Reply::Value(entry.value),
             takes,
         },
         Err(_) => Taken::none(alloc, Reply::Memory),
@@ -206,4 +198,43 @@ fn one_take(alloc: Global, task: &Text, found: Found) -> Result<Takes, CopyFault
     ensures { IfOk result (λ takes. takes ≡ (task.now, found) ∷ []) }
 {
     Ok(Takes::one(alloc, task.copy()?, found)?)
+}
+
+// The task's entry is looked at, and the task is run unless the entry is reused.
+fn take<S: Store>(alloc: Global, job: &Job, class_file: SmallFile, store: &mut S) -> Taken
+    requires named { IsNamed job.now.task job.now.entry job.now.log }
+    requires short { length job.now.task ≤ 64 }
+    ensures take { IsTake job.now.task job.now.input (Outcome.Returns (constant class_file.opcode) []) (S.faults store.old) (S.faults store.new) (S.content store.old) (S.content store.new) result.reply result.takes }
+    ensures kept { S.kept store.new ≡ S.kept store.old }
+{
+    match look(alloc, store, &job.entry, &job.task) {
+        Err(fault) => Taken::none(alloc, store_reply(fault)),
+        Ok(None) => run_task(alloc, job, class_file, Found::Missing, store),
+        Ok(Some(entry)) => {
+            if entry.input == job.input {
+                reuse(alloc, &job.task, entry)
+            } else {
+                run_task(alloc, job, class_file, Found::Other(entry.input), store)
+            }
+        }
+    }
+}
+
+/// Takes the task of a build over its record.
+pub fn evaluate<S: Store>(
+    alloc: Global,
+    inputs: &Record,
+    class_file: SmallFile,
+    task: &Text,
+    store: &mut S,
+) -> Taken
+    requires built { not_built inputs.now.files ≡ None }
+    requires known { task_in inputs.now.files task.now ≡ Some class_file }
+    ensures answer { IsAnswer inputs.now task.now (S.faults store.old) (S.faults store.new) (S.content store.old) (S.content store.new) result.reply result.takes }
+    ensures kept { S.kept store.new ≡ S.kept store.old }
+{
+    match prepare(alloc, inputs, class_file, task) {
+        Ok(job) => take(alloc, &job, class_file, store),
+        Err(_) => Taken::none(alloc, Reply::Memory),
+    }
 }

@@ -12,6 +12,7 @@ mod recorded;
 mod reply;
 mod sending;
 mod takes;
+mod top;
 mod words;
 
 fn main() {}

@@ -1,0 +1,181 @@
+//! The top call.
+
+ghost use Rattle.std.specs.Prelude.{◌≡◌, ◌≢◌, ◌⊎◌, ◌++◌, ◌∷◌, [], ℕ, ℤ, List, take, Some, None, Option, IfOk, IfErr, IfSome, IsNone};
+ghost use Rattle.io_traits.specs.Causes.{Rose, HasCause};
+ghost use Rattle.io_traits.specs.Streams.{Got};
+ghost use Rattle.mill_top.specs.Builds.{not_built, task_in};
+ghost use Rattle.mill_top.specs.Words.{asked};
+ghost use Rattle.mill_top.specs.Inputs.{Run, Clean};
+ghost use Rattle.mill_top.specs.Replies.{status, refusal, Shown};
+ghost use Rattle.mill_top.specs.Standing.{StandsIn};
+ghost use Rattle.mill_top.specs.Answers.{IsUnlessMemory, IsRecordOf, IsUnread, IsAnswer, IsAnswerTo, IsFromScratch, runs_in, all_texts, IsKept};
+
+use crate::builds::{build, if_has};
+use crate::class_file::SmallFile;
+use crate::evaluating::{Taken, evaluate};
+use crate::reading::read_files;
+use crate::recorded::{Record, Variables, Words};
+use crate::reply::Reply;
+use crate::sending::send;
+use crate::takes::Takes;
+use crate::words::asked;
+use io_traits::{IoFault, Sink, Store, Workspace};
+use std::alloc::Global;
+use tree_value::{Path, Text};
+
+/// What a command ends with: its status, the reply that was shown, the tasks that were taken, the record that was
+/// read, if any, and the devices.
+#[derive(Drop)]
+pub struct Told<S, W, K> {
+    pub status: u8,
+    pub reply: Reply,
+    pub takes: Takes,
+    pub inputs: Option<Record>,
+    pub store: S,
+    pub workspace: W,
+    pub sink: K,
+}
+
+// The reply to a command, the tasks that were taken and the record.
+#[derive(Drop)]
+struct Answer {
+    reply: Reply,
+    takes: Takes,
+    inputs: Option<Record>,
+}
+
+fn file_not_built(path: &Path) -> Reply
+    ensures { IsUnlessMemory result (Reply.FileNotBuilt path.now) }
+{
+    match path.copy() {
+        Ok(path) => Reply::FileNotBuilt(path),
+        Err(_) => Reply::Memory,
+    }
+}
+
+fn no_task(task: &Text) -> Reply
+    ensures { IsUnlessMemory result (Reply.NoTask task.now) }
+{
+    match task.copy() {
+        Ok(task) => Reply::NoTask(task),
+        Err(_) => Reply::Memory,
+    }
+}
+
+// The small file that has the task, or why the record is refused.
+fn choose(inputs: &Record, task: &Text) -> Result<SmallFile, Reply>
+    ensures ok { IfOk result (λ class_file. (not_built inputs.now.files ≡ None) × (task_in inputs.now.files task.now ≡ Some class_file)) }
+    ensures err { IfErr result (λ reply. (refused : Reply) × (refusal inputs.now task.now ≡ Some refused) × IsUnlessMemory reply refused) }
+{
+    match build(inputs.files.as_slice()) {
+        Err(path) => Err(file_not_built(path)),
+        Ok(file) => match if_has(task.as_slice(), file) {
+            Some(class_file) => Ok(class_file),
+            None => Err(no_task(task)),
+        },
+    }
+}
+
+fn taken<S: Store>(alloc: Global, inputs: &Record, task: &Text, store: &mut S) -> Taken
+    ensures answer { IsAnswer inputs.now task.now (S.faults store.old) (S.faults store.new) (S.content store.old) (S.content store.new) result.reply result.takes }
+    ensures kept { S.kept store.new ≡ S.kept store.old }
+{
+    match choose(inputs, task) {
+        Ok(class_file) => evaluate(alloc, inputs, class_file, task, store),
+        Err(reply) => Taken::none(alloc, reply),
+    }
+}
+
+fn judge<S: Store>(alloc: Global, inputs: Record, task: &Text, store: &mut S) -> Answer
+    ensures inputs { result.inputs ≡ Some inputs }
+    ensures answer { IsAnswer inputs task.now (S.faults store.old) (S.faults store.new) (S.content store.old) (S.content store.new) result.reply result.takes }
+    ensures kept { S.kept store.new ≡ S.kept store.old }
+{
+    let Taken { reply, takes } = taken(alloc, &inputs, task, store);
+    Answer {
+        reply,
+        takes,
+        inputs: Some(inputs),
+    }
+}
+
+fn read_record<W: Workspace>(
+    alloc: Global,
+    words: &[Text],
+    environment: &[(Text, Text)],
+    moment: u64,
+    workspace: &mut W,
+) -> Result<Record, IoFault>
+    ensures inputs { IfOk result (IsRecordOf words.now environment.now moment (W.content workspace.old)) }
+    ensures content { W.content workspace.new ≡ W.content workspace.old }
+    ensures cause { HasCause (W.faults workspace.old) (W.faults workspace.new) result }
+    ensures kept { W.kept workspace.new ≡ W.kept workspace.old }
+{
+    let files = read_files(alloc, workspace)?;
+    Ok(Record {
+        files,
+        environment: Variables::copy_of(alloc, environment)?,
+        moment,
+        words: Words::copy_of(alloc, words)?,
+    })
+}
+
+fn unread(alloc: Global, reply: Reply) -> Answer
+    ensures { result ≡ record { reply = reply; takes = []; inputs = None } }
+{
+    Answer {
+        reply,
+        takes: Takes::none(alloc),
+        inputs: None,
+    }
+}
+
+fn answer_words<S: Store, W: Workspace>(
+    alloc: Global,
+    words: &[Text],
+    environment: &[(Text, Text)],
+    moment: u64,
+    store: &mut S,
+    workspace: &mut W,
+) -> Answer
+    ensures unread { IsNone result.inputs → IsUnread words.now (W.faults workspace.old) (W.faults workspace.new) (S.content store.old) (S.content store.new) result.reply result.takes }
+    ensures inputs { IfSome result.inputs (IsRecordOf words.now environment.now moment (W.content workspace.old)) }
+    ensures answer { IfSome result.inputs (λ inputs. IsAnswerTo words.now inputs (S.faults store.old) (S.faults store.new) (S.content store.old) (S.content store.new) result.reply result.takes) }
+    ensures workspace { W.content workspace.new ≡ W.content workspace.old }
+    ensures kept_store { S.kept store.new ≡ S.kept store.old }
+    ensures kept_workspace { W.kept workspace.new ≡ W.kept workspace.old }
+{
+    let Some(task) = asked(words) else {
+        return unread(alloc, Reply::WordsNotBuilt);
+    };
+    match read_record(alloc, words, environment, moment, workspace) {
+        Ok(inputs) => judge(alloc, inputs, task, store),
+        Err(IoFault::Failed) => unread(alloc, Reply::WorkspaceFault),
+        Err(IoFault::Memory) => unread(alloc, Reply::Memory),
+    }
+}
+
+// Writes the text, and gives the status, or 7 where the sink failed.
+fn send_all<K: Sink>(sink: &mut K, text: &[u8], status: u8) -> u8
+    ensures sent { ((result ≡ status) × Got (K.got sink.old) (K.got sink.new) text.now) ⊎ ((result ≡ 7) × Rose (K.faults sink.old) (K.faults sink.new) × ((n : ℕ) × Got (K.got sink.old) (K.got sink.new) (take n text.now))) }
+    ensures kept { K.kept sink.new ≡ K.kept sink.old }
+{
+    match send(sink, text) {
+        Ok(()) => status,
+        Err(IoFault::Failed) => 7,
+        Err(IoFault::Memory) => unreachable!(),
+    }
+}
+
+// Shows the reply, or that memory is wanted.
+fn show<K: Sink>(alloc: Global, sink: &mut K, reply: Reply) -> (u8, Reply)
+    ensures reply { IsUnlessMemory result.1 reply }
+    ensures shown { Shown (K.got sink.old) (K.got sink.new) result.1 result.0 }
+    ensures fault { result.0 ≡ 7 → Rose (K.faults sink.old) (K.faults sink.new) }
+    ensures kept { K.kept sink.new ≡ K.kept sink.old }
+{
+    match reply.printed(alloc) {
+        Ok(text) => (send_all(sink, text.as_slice(), reply.status()), reply),
+        Err(_) => (send_all(sink, b"memory\n", 6), Reply::Memory),
+    }
+}
