@@ -6,3 +6,6 @@ pub mod EntryLaws
 pub mod TaskLaws
 pub mod PathLaws
 pub mod AnswerLaws
+pub mod InputLaws
+pub mod StandingLaws
+pub mod TopLaws

@@ -1,11 +1,16 @@
 -- Laws of the task of a build.
-use Rattle.std.proofs.Common.{◌≡◌, ℕ, ◌<◌, ◌≤◌, Bool, true, false, ◌&&◌, if◌then◌else◌, List, [], ◌∷◌, Option, Some, None, nat_le, refl, sym, ap, ◌∙◌, arith}
+use Rattle.std.proofs.Common.{◌≡◌, ℕ, ℤ, zero, suc, FitsSigned, subst, lit<, ◌<◌, ◌≤◌, Bool, true, false, ◌&&◌, if◌then◌else◌, List, [], ◌∷◌, Option, Some, None, nat_le, refl, sym, ap, ◌∙◌, arith}
+use Rattle.std.specs.Int.{w32}
+use Rattle.std.specs.Option.{option_map}
 use Rattle.std.specs.Str.{bytes_eq}
 use Rattle.std.proofs.lemmas.Slice.Eq.{bytes_eq-Decides}
 use Rattle.std.proofs.lemmas.Bool.{leb-true}
 use Rattle.io_traits.specs.Files.{File, Files}
 use Rattle.mill_top.specs.declared.class_file.SmallFile.{SmallFile}
-use Rattle.mill_top.specs.SmallFiles.{is_within, is_file_of, free_bytes, small_of}
+use Rattle.mill_top.specs.declared.outcome.Outcome.TheVariants.{Returns}
+use Rattle.mill_top.specs.declared.recorded.Record.{Record}
+use Rattle.mill_top.specs.Scratch.{scratch}
+use Rattle.mill_top.specs.SmallFiles.{constant, is_within, is_file_of, free_bytes, small_of}
 use Rattle.mill_top.specs.Builds.{class_files, if_has, task_among, task_in}
 
 -- what a choice gives by a test
@@ -58,3 +63,36 @@ letter files task class_file e =
     let small = (among_is (class_files files) task class_file e).1 in
     let within = small_is_within small.0 class_file small.1 in
     letter_within class_file within
+
+opcode_within : (file : SmallFile) → is_within file ≡ true → file.opcode ≤ 8
+opcode_within file e =
+    let own = nat_le 65 file.class && nat_le file.class 90 in
+    let task = nat_le 97 file.task && nat_le file.task 122 in
+    let opcode = nat_le 2 file.opcode && nat_le file.opcode 8 in
+    let is : opcode ≡ true = right_of (own && task) opcode e in
+    leb-true file.opcode 8 (right_of (nat_le 2 file.opcode) (nat_le file.opcode 8) is)
+
+constant_fits : (opcode : ℕ) → opcode ≤ 8 → FitsSigned w32 (constant opcode)
+constant_fits zero within = record { sfits = lit< tt }
+constant_fits (suc zero) within = record { sfits = lit< tt }
+constant_fits (suc (suc zero)) within = record { sfits = lit< tt }
+constant_fits (suc (suc (suc zero))) within = record { sfits = lit< tt }
+constant_fits (suc (suc (suc (suc zero)))) within = record { sfits = lit< tt }
+constant_fits (suc (suc (suc (suc (suc zero))))) within = record { sfits = lit< tt }
+constant_fits (suc (suc (suc (suc (suc (suc zero)))))) within = record { sfits = lit< tt }
+constant_fits (suc (suc (suc (suc (suc (suc (suc zero))))))) within = record { sfits = lit< tt }
+constant_fits (suc (suc (suc (suc (suc (suc (suc (suc zero)))))))) within = record { sfits = lit< tt }
+constant_fits (suc (suc (suc (suc (suc (suc (suc (suc (suc n))))))))) within = absurd (omega arith)
+
+returned : (found : Option SmallFile) (value : ℤ) (log : List ℕ) → option_map (λ (f : SmallFile). Returns (constant f.opcode) []) found ≡ Some (Returns value log)
+    → (class_file : SmallFile) × (found ≡ Some class_file) × (constant class_file.opcode ≡ value)
+returned None value log e = cc
+returned (Some class_file) value log e = (class_file, refl, cc)
+
+-- a value from scratch is an int of 32 bits
+pub scratch_fits : (inputs : Record) (task : List ℕ) (value : ℤ) (log : List ℕ) → scratch inputs task ≡ Some (Returns value log) → FitsSigned w32 value
+unfolding task_in
+scratch_fits inputs task value log e =
+    let own = returned (task_in inputs.files task) value log e in
+    let small = (among_is (class_files inputs.files) task own.0 own.1).1 in
+    subst (FitsSigned w32) own.2 (constant_fits own.0.opcode (opcode_within own.0 (small_is_within small.0 own.0 small.1)))

@@ -1,16 +1,12 @@
 -- The text behind a task's input hash, and the texts that are digested on the way.
-use Rattle.std.specs.Prelude.{◌≡◌, ℕ, List, [], ◌∷◌, ◌++◌, length, flat_map, Contains, codes, Option, Some, None, MatchOption}
-use Rattle.std.specs.Fmt.{decimal}
+use Rattle.std.specs.Prelude.{◌≡◌, ℕ, ◌<◌, ◌^◌, List, [], ◌∷◌, length, flat_map, Contains, codes, Option, Some, None, MatchOption}
 use Rattle.std.specs.Option.{option_map_or}
 use Rattle.hex.specs.Hex.{encode_lower}
 use Rattle.sha2.specs.Sha256.{sha256}
 use Rattle.io_traits.specs.Files.{Files}
+use Rattle.tree_value.specs.Nets.{net}
 use Rattle.mill_top.specs.declared.recorded.Record.{Record}
 use Rattle.mill_top.specs.Builds.{class_files, task_in}
-
--- a text with its length before it, so that texts in a row can be told apart
-unfoldable pub net : List ℕ → List ℕ
-net text = decimal (length text) ++ codes ":" ++ text ++ codes ","
 
 -- the texts of a list, each as a net
 abbrev pub nets : List (List ℕ) → List ℕ
@@ -49,6 +45,8 @@ pub record Run : Type 0 where
 abbrev pub texts : Run → List (List ℕ)
 texts run = method_text run.inputs run.task ∷ input_text run.inputs run.task ∷ []
 
--- no collision: two of the texts with equal digests (SHA-256, FIPS 180-4) are equal
-abbrev pub Clean : List (List ℕ) → Type 0
-Clean all = (a b : List ℕ) → Contains all a → Contains all b → sha256 a ≡ sha256 b → a ≡ b
+-- No collision: the texts are messages of SHA-256, which are shorter than 2^64 bits (FIPS 180-4), and two of them with
+-- equal digests are equal.
+pub record Clean (all : List (List ℕ)) : Type 0 where
+  pub messages : (text : List ℕ) → Contains all text → length text < 2 ^ 61
+  pub apart : (a b : List ℕ) → Contains all a → Contains all b → sha256 a ≡ sha256 b → a ≡ b

@@ -1,8 +1,9 @@
 //! The input hash of a task.
 
 ghost use Rattle.std.specs.Prelude.{◌≡◌, ◌++◌, ◌∷◌, [], Some, IfOk, OnOk, codes};
+ghost use Rattle.tree_value.specs.Nets.{net};
 ghost use Rattle.mill_top.specs.Builds.{task_in};
-ghost use Rattle.mill_top.specs.Inputs.{net, whole_row, method_text, input_text, input_hash};
+ghost use Rattle.mill_top.specs.Inputs.{whole_row, method_text, input_text, input_hash};
 
 use crate::builds::is_class_path;
 use crate::class_file::SmallFile;
@@ -11,7 +12,7 @@ use sha2::{Digest as _, Sha256};
 use std::alloc::{AllocError, Global};
 use tree_value::Digest;
 
-#[tactic(auto, unfolding(crate::specs::Inputs::net))]
+#[tactic(auto, unfolding(tree_value::specs::Nets::net))]
 fn push_net(text: &mut Vec<u8>, alloc: Global, field: &[u8]) -> Result<(), AllocError>
     ensures { OnOk result (text.new.items ≡ text.old.items ++ net field.now) }
 {

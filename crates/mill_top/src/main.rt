@@ -1,4 +1,6 @@
-//! The program `mill`.
+//! The program `mill`: it evaluates a build that is given as Java class files, keeps the results in `out` and reuses
+//! them. The top call is `mill_one` of the module `top`, over the traits of `io_traits`; this file makes the devices of
+//! `io_real` for it. It stands on `tree_value`, `io_traits` and `io_real`, and on `sha2` and `hex`.
 #![tactic(auto)]
 
 mod builds;
@@ -7,6 +9,7 @@ mod entry;
 mod evaluating;
 mod inputs;
 mod outcome;
+mod program;
 mod reading;
 mod recorded;
 mod reply;
@@ -15,4 +18,8 @@ mod takes;
 mod top;
 mod words;
 
-fn main() {}
+use std::process::ExitCode;
+
+fn main(rt: HostRuntime) -> ExitCode {
+    ExitCode::from(program::run(&rt))
+}

@@ -41,5 +41,8 @@ pub fn read_files<W: Workspace>(alloc: Global, workspace: &mut W) -> Result<Cont
     for name in &names {
         add_file(workspace, name, &mut files)?;
     }
-    Ok(Contents::from_vec(files))
+    match Contents::of(files) {
+        Some(files) => Ok(files),
+        None => unreachable!(),
+    }
 }

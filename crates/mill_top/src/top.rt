@@ -168,6 +168,7 @@ fn send_all<K: Sink>(sink: &mut K, text: &[u8], status: u8) -> u8
 }
 
 // Shows the reply, or that memory is wanted.
+#[tactic(auto, unfolding(crate::specs::Replies::printed))]
 fn show<K: Sink>(alloc: Global, sink: &mut K, reply: Reply) -> (u8, Reply)
     ensures reply { IsUnlessMemory result.1 reply }
     ensures shown { Shown (K.got sink.old) (K.got sink.new) result.1 result.0 }
@@ -177,5 +178,80 @@ fn show<K: Sink>(alloc: Global, sink: &mut K, reply: Reply) -> (u8, Reply)
     match reply.printed(alloc) {
         Ok(text) => (send_all(sink, text.as_slice(), reply.status()), reply),
         Err(_) => (send_all(sink, b"memory\n", 6), Reply::Memory),
+    }
+}
+
+/// Shows a reply alone, and gives the status.
+pub fn refuse<K: Sink + Drop>(alloc: Global, mut sink: K, reply: Reply) -> u8
+    ensures { (result ≡ status reply) ⊎ ((result ≡ 6) ⊎ (result ≡ 7)) }
+{
+    show(alloc, &mut sink, reply).0
+}
+
+/// Runs one command over its devices, on this thread.
+///
+/// The words are `-j 1 show TASK`; the workspace's class files, if it has any, are one small file in its place.
+/// The task is reused where its entry reads and has its input hash; otherwise it is run, and its log and then its
+/// entry are put. The reply goes to the sink.
+///
+/// The replies and their statuses: the value (0); words of another form (2); the workspace failed (5); a class file
+/// that is none that is read so far (3); no such task (2); the store failed (4); memory was wanted (6). Where the sink
+/// fails the status is 7.
+pub fn mill_one<S: Store, W: Workspace, K: Sink>(
+    alloc: Global,
+    words: &[Text],
+    environment: &[(Text, Text)],
+    moment: u64,
+    mut store: S,
+    mut workspace: W,
+    mut sink: K,
+) -> Told<S, W, K>
+    // The sink has the reply behind what it had, and the status is the reply's; or a front part of it, and the status
+    // is 7, only where the sink's count rose.
+    ensures shown { Shown (K.got sink) (K.got result.sink) result.reply result.status }
+    ensures sink_fault { result.status ≡ 7 → Rose (K.faults sink) (K.faults result.sink) }
+
+    // Without a record the words are refused or the workspace failed, and nothing is taken.
+    ensures unread { IsNone result.inputs → IsUnread words.now (W.faults workspace) (W.faults result.workspace) (S.content store) (S.content result.store) result.reply result.takes }
+
+    // A record has what was handed in and what the workspace tells.
+    ensures record_of { IfSome result.inputs (IsRecordOf words.now environment.now moment (W.content workspace)) }
+
+    // With a record: when each reply comes, the one take with its reason, and what it leaves in the store.
+    ensures answer { IfSome result.inputs (λ inputs. IsAnswerTo words.now inputs (S.faults store) (S.faults result.store) (S.content store) (S.content result.store) result.reply result.takes) }
+
+    // Where the store stands for runs and no texts collide, the reply is that of evaluation from scratch.
+    ensures from_scratch { (runs : List Run) (lost : List (List ℕ)) (task : List ℕ) → asked words.now ≡ Some task → StandsIn (S.content store) runs lost → IfSome result.inputs (λ inputs. Clean (all_texts inputs task runs) → IsFromScratch inputs result.reply) }
+
+    // Afterwards it stands for these and the runs of this call, after a fault too.
+    ensures stands { (runs : List Run) (lost : List (List ℕ)) → StandsIn (S.content store) runs lost → StandsIn (S.content result.store) (runs ++ runs_in result.inputs result.takes) lost }
+
+    // The workspace tells what it told, and what each device keeps is as it was or as the device was handed in.
+    ensures workspace { W.content result.workspace ≡ W.content workspace }
+    ensures kept_store { IsKept (S.kept store) (S.kept result.store) (S.content store) (S.faults store) }
+    ensures kept_workspace { IsKept (W.kept workspace) (W.kept result.workspace) (W.content workspace) (W.faults workspace) }
+    ensures kept_sink { IsKept (K.kept sink) (K.kept result.sink) (K.got sink) (K.faults sink) }
+{
+    let Answer {
+        reply,
+        takes,
+        inputs,
+    } = answer_words(
+        alloc,
+        words,
+        environment,
+        moment,
+        &mut store,
+        &mut workspace,
+    );
+    let (status, reply) = show(alloc, &mut sink, reply);
+    Told {
+        status,
+        reply,
+        takes,
+        inputs,
+        store,
+        workspace,
+        sink,
     }
 }
