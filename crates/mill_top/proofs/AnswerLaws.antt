@@ -31,14 +31,17 @@ pub run_earlier : (task input : List ℕ) (found : Found) (outcome : Outcome) (b
     → before ≤ mid → same ≡ old → IsRun task input found outcome mid now same new reply takes → IsRun task input found outcome before now old new reply takes
 run_earlier task input found outcome before mid now old same new reply takes earlier is (inl (run, one)) =
     let run : IsKeptRun task input outcome mid now old new reply = subst (λ o. IsKeptRun task input outcome mid now o new reply) is run in
-    inl (record {
-      evaluated = run.evaluated;
-      later = let later = run.later in omega arith;
-      cause = λ fault. rose_earlier before mid now earlier (run.cause fault);
-      value = run.value;
-      out = run.out;
-      left = run.left;
-    }, one)
+    inl (
+      record {
+        evaluated = run.evaluated;
+        later = let later = run.later in omega arith;
+        cause = λ fault. rose_earlier before mid now earlier (run.cause fault);
+        value = run.value;
+        out = run.out;
+        left = run.left;
+      },
+      one,
+    )
 run_earlier task input found outcome before mid now old same new reply takes earlier is (inr (kept, wanted, none)) = inr (kept ∙ is, wanted, none)
 
 after_run : (inputs : Record) (task : List ℕ) (found : Found) (o : Option Outcome) (outcome : Outcome) (content : Option Files) → IsNew found → o ≡ Some outcome
@@ -107,12 +110,12 @@ reuse_answer inputs task before now old new entry accepted has same = record {
   evaluated = subst (λ r. IfNone r (IsEvaluation (Value entry.value))) (sym accepted) tt;
   cause = λ e. cc;
   value = λ value is.
-    let own : entry.value ≡ value = cc in
-    record {
-      found = Same entry.input;
-      one = refl;
-      gives = subst (λ v. IfSome old (λ files. Reads task (get files (entry_name task)) (record { input = entry.input; value = v }))) own (reads_at task _ old entry has);
-    };
+      let own : entry.value ≡ value = cc in
+      record {
+        found = Same entry.input;
+        one = refl;
+        gives = subst (λ v. IfSome old (λ files. Reads task (get files (entry_name task)) (record { input = entry.input; value = v }))) own (reads_at task _ old entry has);
+      };
   why = (why_same old has.reads, tt);
   out = λ value is. same;
   left = same;
@@ -156,7 +159,7 @@ take_answer inputs task input outcome before now old new reply takes accepted is
     nothing_answer inputs task before now old new reply takes accepted (memory_nothing before now old new reply takes p q same)
 take_answer inputs task input outcome before now old new reply takes accepted is hash (inr (inr (found, reason, inl (run, q)))) =
     moved inputs task before now old new reply reply takes _ refl q
-      (run_answer inputs task outcome before now old new reply found accepted is (subst (λ h. IsReason task h old found) hash reason) (subst (λ h. IsKeptRun task h outcome before now old new reply) hash run))
+    (run_answer inputs task outcome before now old new reply found accepted is (subst (λ h. IsReason task h old found) hash reason) (subst (λ h. IsKeptRun task h outcome before now old new reply) hash run))
 take_answer inputs task input outcome before now old new reply takes accepted is hash (inr (inr (found, reason, inr (same, p, q)))) =
     nothing_answer inputs task before now old new reply takes accepted (memory_nothing before now old new reply takes p q same)
 

@@ -40,7 +40,7 @@ int_text int fits = IsUtf8-from_ascii (signed_decimal int) (IsAscii-signed int (
 -- the text as what stands before the input hash, the hash and the rest
 after_head : (task : List ℕ) (entry : Entry) → entry_text task entry
     ≡ codes "{\"dest\":1,\"files\":[],\"input\":\"" ++ (encode_lower entry.input
-      ++ (codes "\",\"task\":\"" ++ (task ++ (codes "\",\"value\":" ++ (signed_decimal entry.value ++ codes ",\"version\":1}")))))
+    ++ (codes "\",\"task\":\"" ++ (task ++ (codes "\",\"value\":" ++ (signed_decimal entry.value ++ codes ",\"version\":1}")))))
 unfolding entry_text
 after_head task entry = simp append_assoc
 
@@ -63,19 +63,19 @@ pub length-entry_text : (task : List ℕ) (entry : Entry) → IsDigest entry.inp
     → length (entry_text task entry) ≡ 127 + length task + length (signed_decimal entry.value)
 length-entry_text task entry is =
     rw (around_value task entry)
-      (simp length-append (omega (arith, length-before_value task entry is)))
+    (simp length-append (omega (arith, length-before_value task entry is)))
 
 pub hash_in : (task : List ℕ) (entry : Entry) → IsDigest entry.input → take 64 (drop 30 (entry_text task entry)) ≡ encode_lower entry.input
 hash_in task entry is =
     let rest = codes "\",\"task\":\"" ++ (task ++ (codes "\",\"value\":" ++ (signed_decimal entry.value ++ codes ",\"version\":1}"))) in
     rw (after_head task entry)
-      (ap (take 64) (drop_at (codes "{\"dest\":1,\"files\":[],\"input\":\"") (encode_lower entry.input ++ rest) 30 refl)
-       ∙ take_at (encode_lower entry.input) rest 64 (length-hex entry.input is))
+    (ap (take 64) (drop_at (codes "{\"dest\":1,\"files\":[],\"input\":\"") (encode_lower entry.input ++ rest) 30 refl)
+    ∙ take_at (encode_lower entry.input) rest 64 (length-hex entry.input is))
 
 pub value_in : (task : List ℕ) (entry : Entry) (n : ℕ) → IsDigest entry.input → n ≡ length (signed_decimal entry.value)
     → take n (drop (114 + length task) (entry_text task entry)) ≡ signed_decimal entry.value
 value_in task entry n is len =
     let tail = signed_decimal entry.value ++ codes ",\"version\":1}" in
     rw (around_value task entry)
-      (ap (take n) (drop_at (before_value task entry) tail (114 + length task) (length-before_value task entry is))
-       ∙ take_at (signed_decimal entry.value) (codes ",\"version\":1}") n (sym len))
+    (ap (take n) (drop_at (before_value task entry) tail (114 + length task) (length-before_value task entry is))
+    ∙ take_at (signed_decimal entry.value) (codes ",\"version\":1}") n (sym len))

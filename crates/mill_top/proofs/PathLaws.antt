@@ -55,9 +55,9 @@ plain_letter t low high = record { above = omega arith; below = omega arith; no_
 pub entry_path : (t : ℕ) → 97 ≤ t → t ≤ 122 → IsPath (t ∷ codes ".json")
 entry_path t low high =
     plain_path t 46 106 (115 ∷ 111 ∷ 110 ∷ []) (omega arith)
-      (plain_letter t low high, (record { above = lit< tt; below = lit< tt; no_slash = refl }, (record { above = lit< tt; below = lit< tt; no_slash = refl }, (record { above = lit< tt; below = lit< tt; no_slash = refl }, (record { above = lit< tt; below = lit< tt; no_slash = refl }, (record { above = lit< tt; below = lit< tt; no_slash = refl }, tt))))))
+    (plain_letter t low high, (record { above = lit< tt; below = lit< tt; no_slash = refl }, (record { above = lit< tt; below = lit< tt; no_slash = refl }, (record { above = lit< tt; below = lit< tt; no_slash = refl }, (record { above = lit< tt; below = lit< tt; no_slash = refl }, (record { above = lit< tt; below = lit< tt; no_slash = refl }, tt))))))
 
 pub log_path : (t : ℕ) → 97 ≤ t → t ≤ 122 → IsPath (t ∷ codes ".log")
 log_path t low high =
     plain_path t 46 108 (111 ∷ 103 ∷ []) (omega arith)
-      (plain_letter t low high, (record { above = lit< tt; below = lit< tt; no_slash = refl }, (record { above = lit< tt; below = lit< tt; no_slash = refl }, (record { above = lit< tt; below = lit< tt; no_slash = refl }, (record { above = lit< tt; below = lit< tt; no_slash = refl }, tt)))))
+    (plain_letter t low high, (record { above = lit< tt; below = lit< tt; no_slash = refl }, (record { above = lit< tt; below = lit< tt; no_slash = refl }, (record { above = lit< tt; below = lit< tt; no_slash = refl }, (record { above = lit< tt; below = lit< tt; no_slash = refl }, tt)))))

@@ -51,7 +51,7 @@ get_at (file ∷ files) zero d up within = ap (λ o. cond (is_eq o) (Some file.1
 get_at (file ∷ files) (suc i) d up within =
     let inside : i < length files = omega arith in
     let less : byte_order file.0 (get_or files i d).0 ≡ Less =
-        subst (λ n. byte_order file.0 n ≡ Less) (name_at files i d) (all_at (λ n. byte_order file.0 n ≡ Less) (names files) i d.0 up.0 (omega (arith, length-names files))) in
+    subst (λ n. byte_order file.0 n ≡ Less) (name_at files i d) (all_at (λ n. byte_order file.0 n ≡ Less) (names files) i d.0 up.0 (omega (arith, length-names files))) in
     ap (λ b. cond b (Some file.1) (get files (get_or files i d).0)) (greater file.0 (get_or files i d).0 less) ∙ get_at files i d up.1 inside
 
 add_at : (files : Files) (i : ℕ) (d : File) (found : Option (List ℕ)) → IsInOrder (names files) → i < length files → found ≡ get files (get_or files i d).0

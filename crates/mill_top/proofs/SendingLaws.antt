@@ -1,6 +1,5 @@
 -- What a sink has taken after pieces in a row.
 use Rattle.std.proofs.Common.{◌≡◌, ℕ, ◌+◌, List, ◌++◌, take, drop, Option, Some, None, ap, sym, ◌∙◌, append_assoc, take-add}
-
 use Rattle.io_traits.specs.Streams.{Got}
 
 pub got_more : (before mid after : Option (List ℕ)) (bytes : List ℕ) (at n : ℕ)

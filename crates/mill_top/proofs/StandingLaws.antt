@@ -71,21 +71,21 @@ remove_found false text old e = cc
 stands_insert : (files : Files) (runs : List Run) (lost : List (List ℕ)) (name bytes : List ℕ) → Stands files runs lost → IsGood name bytes runs → Stands (insert files name bytes) runs lost
 stands_insert files runs lost name bytes stands good = record {
   entries = λ task entry reads.
-    elim (insert_found (eq_by_cmp byte_order (entry_name task) name) bytes (entry_text task entry) (get files (entry_name task))
-        (sym (entries.find-put byte_order nat_list_cmp_total (entry_name task) name bytes files) ∙ reads.text)) [
-      | inl (here, is) ↦ good task entry (same_name (entry_name task) name here) reads.form is
-      | inr there ↦ stands.entries task entry (record { form = reads.form; text = there })
-    ];
+      elim (insert_found (eq_by_cmp byte_order (entry_name task) name) bytes (entry_text task entry) (get files (entry_name task))
+      (sym (entries.find-put byte_order nat_list_cmp_total (entry_name task) name bytes files) ∙ reads.text)) [
+        | inl (here, is) ↦ good task entry (same_name (entry_name task) name here) reads.form is
+        | inr there ↦ stands.entries task entry (record { form = reads.form; text = there })
+      ];
 }
 
 stands_remove : (files : Files) (runs : List Run) (lost : List (List ℕ)) (name : List ℕ) → Stands files runs lost → Stands (remove files name) runs lost
 stands_remove files runs lost name stands = record {
   entries = λ task entry reads.
-    stands.entries task entry (record {
-      form = reads.form;
-      text = remove_found (not (eq_by_cmp byte_order name (entry_name task))) (entry_text task entry) (get files (entry_name task))
-        (sym (entries.find-where_key byte_order (λ n. not (eq_by_cmp byte_order name n)) (entry_name task) (alike (entry_name task) name) files) ∙ reads.text);
-    });
+      stands.entries task entry (record {
+        form = reads.form;
+        text = remove_found (not (eq_by_cmp byte_order name (entry_name task))) (entry_text task entry) (get files (entry_name task))
+            (sym (entries.find-where_key byte_order (λ n. not (eq_by_cmp byte_order name n)) (entry_name task) (alike (entry_name task) name) files) ∙ reads.text);
+      });
 } where
   alike : (q name x : List ℕ) → byte_order q x ≡ Equal → not (eq_by_cmp byte_order name x) ≡ not (eq_by_cmp byte_order name q)
   alike q name x ties = ap (λ n. not (eq_by_cmp byte_order name n)) (sym (same_name q x (ap is_eq ties)))
@@ -100,8 +100,8 @@ stands_more : (content : Option Files) (runs more : List Run) (lost : List (List
 stands_more None runs more lost stands = stands
 stands_more (Some files) runs more lost stands = record {
   entries = λ task entry reads.
-    let own = stands.entries task entry reads in
-    (own.0, Contains-append_left runs more own.0 own.1, own.2, own.3);
+      let own = stands.entries task entry reads in
+      (own.0, Contains-append_left runs more own.0 own.1, own.2, own.3);
 }
 
 good_log : (task bytes : List ℕ) (runs : List Run) → IsGood (log_name task) bytes runs
@@ -158,4 +158,4 @@ stands_after inputs (one ∷ next ∷ takes) old new runs lost left stands =
     let o = scratch inputs one.0 in
     let first = stands_take inputs one.0 one.1 o old (after_take inputs one.0 one.1 o old) runs lost refl (whole_take inputs one.0 one.1 o old) stands in
     subst (λ all. StandsIn new all lost) (append_assoc runs (run_of inputs one.0 one.1 o) (runs_of inputs (next ∷ takes)))
-      (stands_after inputs (next ∷ takes) (after_take inputs one.0 one.1 o old) new (runs ++ run_of inputs one.0 one.1 o) lost left first)
+    (stands_after inputs (next ∷ takes) (after_take inputs one.0 one.1 o old) new (runs ++ run_of inputs one.0 one.1 o) lost left first)

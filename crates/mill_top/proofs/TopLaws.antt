@@ -41,6 +41,7 @@ memory_answer inputs task before now old new reply takes h = record {
   wanted : (r : Option Reply) → IfSome r (λ refused. IsUnlessMemory reply refused × (takes ≡ [])) → IfSome r (λ refused. IsUnlessMemory Memory refused × (takes ≡ []))
   wanted None both = tt
   wanted (Some refused) both = (inr refl, both.1)
+
   accepted : (r : Option Reply) → IfNone r (IsEvaluation Memory)
   accepted None = inr refl
   accepted (Some refused) = tt
@@ -73,9 +74,11 @@ shown_unread words before now old new reply own takes is h = record {
   over_none : (o : Option (List ℕ)) → IfNone o (IsUnlessMemory own WordsNotBuilt) → IfNone o (IsUnlessMemory reply WordsNotBuilt)
   over_none None e = chained reply own WordsNotBuilt is e
   over_none (Some task) e = tt
+
   over_some : (o : Option (List ℕ)) → IfSome o (λ task. IsUnlessMemory own WorkspaceFault) → IfSome o (λ task. IsUnlessMemory reply WorkspaceFault)
   over_some None e = tt
   over_some (Some task) e = chained reply own WorkspaceFault is e
+
   cause : IsUnlessMemory reply own → reply ≡ WorkspaceFault → Rose before now
   cause (inl same) e = h.cause (sym same ∙ e)
   cause (inr wanted) e = let differs : Memory ≡ WorkspaceFault = sym wanted ∙ e in cc
@@ -125,9 +128,9 @@ from_scratch words inputs before now old new reply takes runs lost task same_wor
     let same_task : own_task ≡ task = (let e : Some own_task ≡ Some task = sym own_asks ∙ asks in cc) in
     let h : IsAnswer inputs task before now old new reply takes = subst (λ t. IsAnswer inputs t before now old new reply takes) same_task h in
     let value : (value : ℤ) → reply ≡ Value value → (log : List ℕ) × (scratch inputs task ≡ Some (Returns value log)) = λ value is.
-        let v = h.value value is in
-        let why : AllByRecursion (IsWhy inputs old) ((task, v.found) ∷ []) = subst (AllByRecursion (IsWhy inputs old)) v.one h.why in
-        value_from_scratch old runs lost inputs task v.found value stands clean why.0 v.gives in
+    let v = h.value value is in
+    let why : AllByRecursion (IsWhy inputs old) ((task, v.found) ∷ []) = subst (AllByRecursion (IsWhy inputs old)) v.one h.why in
+    value_from_scratch old runs lost inputs task v.found value stands clean why.0 v.gives in
     elim (reply_scratch task (not_built inputs.files) (scratch inputs task) reply takes h.refused h.evaluated value) [
       | inl is ↦ inl (is ∙ ap (words_reply inputs) (sym asks ∙ ap asked (sym same_words)))
       | inr other ↦ inr other

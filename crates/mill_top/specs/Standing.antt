@@ -17,7 +17,7 @@ pub record IsOf (entry : Entry) (run : Run) : Type 0 where
 -- the same task. A run that has dest files would have them among the files but for the lost names; none has any yet.
 pub record Stands (files : Files) (runs : List Run) (lost : List (List ℕ)) : Type 0 where
   pub entries : (task : List ℕ) (entry : Entry) → Reads task (get files (entry_name task)) entry
-    → (run : Run) × Contains runs run × (run.task ≡ task) × IsOf entry run
+      → (run : Run) × Contains runs run × (run.task ≡ task) × IsOf entry run
 
 -- the same of a store that tells its content
 abbrev pub StandsIn : Option Files → List Run → List (List ℕ) → Type 0

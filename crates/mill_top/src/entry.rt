@@ -19,8 +19,11 @@ pub struct Entry {
 }
 
 const HEAD: &[u8] = b"{\"dest\":1,\"files\":[],\"input\":\"";
+
 const TASK: &[u8] = b"\",\"task\":\"";
+
 const VALUE: &[u8] = b"\",\"value\":";
+
 const TAIL: &[u8] = b",\"version\":1}";
 
 impl Entry {
@@ -43,11 +46,7 @@ impl Entry {
     }
 
     /// The entry whose text under the task these bytes are.
-    pub fn read(
-        alloc: Global,
-        task: &[u8],
-        bytes: &[u8],
-    ) -> Result<Option<Entry>, AllocError>
+    pub fn read(alloc: Global, task: &[u8], bytes: &[u8]) -> Result<Option<Entry>, AllocError>
         requires { length task.now ≤ 64 }
         ensures some { IfOk result (λ found. IfSome found (λ entry. IsWellFormed entry × (bytes.now ≡ entry_text task.now entry))) }
         ensures none { IfOk result (λ found. IsNone found → (entry : Entry) → IsWellFormed entry → bytes.now ≢ entry_text task.now entry) }

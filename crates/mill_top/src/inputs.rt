@@ -40,11 +40,7 @@ fn whole_row(alloc: Global, inputs: &Record) -> Result<Vec<u8>, AllocError>
 }
 
 #[tactic(auto, unfolding(crate::specs::Inputs::method_text))]
-fn method_text(
-    alloc: Global,
-    inputs: &Record,
-    class_file: SmallFile,
-) -> Result<Vec<u8>, AllocError>
+fn method_text(alloc: Global, inputs: &Record, class_file: SmallFile) -> Result<Vec<u8>, AllocError>
     requires { task_in inputs.now.files (class_file.task ∷ []) ≡ Some class_file }
     ensures { IfOk result (λ text. text.items ≡ method_text inputs.now (class_file.task ∷ [])) }
 {
@@ -59,11 +55,7 @@ fn method_text(
 }
 
 #[tactic(auto, unfolding(crate::specs::Inputs::input_text))]
-fn input_text(
-    alloc: Global,
-    inputs: &Record,
-    class_file: SmallFile,
-) -> Result<Vec<u8>, AllocError>
+fn input_text(alloc: Global, inputs: &Record, class_file: SmallFile) -> Result<Vec<u8>, AllocError>
     requires { task_in inputs.now.files (class_file.task ∷ []) ≡ Some class_file }
     ensures { IfOk result (λ text. text.items ≡ input_text inputs.now (class_file.task ∷ [])) }
 {

@@ -54,7 +54,10 @@ fn environment<R: Env + AllocGlobal>(rt: &R) -> Result<Vec<(Text, Text)>, Reply>
     };
     let mut environment = Vec::new(alloc);
     for (name, value) in vars {
-        let pair = (text(alloc, name.as_bytes())?, text(alloc, value.as_bytes())?);
+        let pair = (
+            text(alloc, name.as_bytes())?,
+            text(alloc, value.as_bytes())?,
+        );
         if environment.push(pair).is_err() {
             return Err(Reply::Memory);
         }

@@ -2,7 +2,6 @@
 
 ghost use Rattle.std.specs.Prelude.{◌≡◌, ◌∷◌, [], IfOk};
 
-
 use std::alloc::{AllocError, Global};
 use std::marker::Model;
 use tree_value::{Digest, Text};

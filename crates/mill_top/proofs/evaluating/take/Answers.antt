@@ -8,7 +8,7 @@ pub returns-else-eq-clause-take : goal.returns-else-eq-clause-take
 returns-else-eq-clause-take g c =
     let entry = c.in-Ok-Some.entry in
     let differs : entry.input ≡ c.args.job.now.input → ⊥ =
-        λ same. let is = (bytes_eq-Decides entry.input c.args.job.now.input).1 same in let other = c.if-eq.ensures in cc in
+    λ same. let is = (bytes_eq-Decides entry.input c.args.job.now.input).1 same in let other = c.if-eq.ensures in cc in
     inr (inr (
       Other entry.input,
       other_reason _ _ _ entry differs (found_reads _ _ _ _ entry c.requires.named.entry_is c.in-Ok-Some.field-0-is c.in-Ok-Some.ensures.found),
