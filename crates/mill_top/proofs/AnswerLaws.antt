@@ -1,5 +1,5 @@
 -- What an answer owes, from what was done for it.
-use Rattle.std.proofs.Common.{◌≡◌, ◌≢◌, ℕ, ℤ, ◌≤◌, ◌⊎◌, inl, inr, List, [], ◌∷◌, Option, Some, None, IfSome, IfNone, refl, sym, ap, subst, ◌∙◌, arith}
+use Rattle.std.proofs.Common.{◌≡◌, ◌≢◌, ℕ, ℤ, ◌≤◌, inl, inr, List, [], ◌∷◌, Option, Some, None, IfSome, IfNone, refl, sym, ap, subst, ◌∙◌, arith}
 use Rattle.std.specs.List.{AllByRecursion}
 use Rattle.io_traits.specs.Causes.{Rose}
 use Rattle.io_traits.specs.Files.{Files, get}
@@ -8,7 +8,7 @@ use Rattle.mill_top.specs.declared.outcome.Outcome.{Outcome}
 use Rattle.mill_top.specs.declared.outcome.Outcome.TheVariants.{Returns}
 use Rattle.mill_top.specs.declared.recorded.Record.{Record}
 use Rattle.mill_top.specs.declared.reply.Reply.{Reply}
-use Rattle.mill_top.specs.declared.reply.Reply.TheVariants.{Value, StoreFault, Memory}
+use Rattle.mill_top.specs.declared.reply.Reply.TheVariants.{Value, Memory}
 use Rattle.mill_top.specs.declared.takes.Found.{Found}
 use Rattle.mill_top.specs.declared.takes.Found.TheVariants.{Missing, Other, Same}
 use Rattle.std.specs.Option.{option_map}
@@ -19,9 +19,9 @@ use Rattle.mill_top.specs.Entries.{entry_name, Reads, IsFound}
 use Rattle.mill_top.specs.Inputs.{input_hash}
 use Rattle.mill_top.specs.Scratch.{scratch}
 use Rattle.mill_top.specs.Takes.{Why, IsNew, IsWhy, Gives}
-use Rattle.mill_top.specs.Out.{log_of, with_run, after_take, after_takes, MayLeaveRun, MayLeaveTake, MayLeave}
+use Rattle.mill_top.specs.Out.{log_of, with_run, after_take, MayLeaveRun, MayLeaveTake, MayLeave}
 use Rattle.mill_top.specs.Replies.{refusal_by, refusal}
-use Rattle.mill_top.specs.Answers.{IsUnlessMemory, IsEvaluation, IsValue, IsAnswer, IsReuse, IsKeptRun, IsRun, IsNothing, HasEntry, IsReason, IsTake}
+use Rattle.mill_top.specs.Answers.{IsUnlessMemory, IsEvaluation, IsAnswer, IsKeptRun, IsRun, IsNothing, HasEntry, IsReason, IsTake}
 
 pub rose_earlier : (before mid now : ℕ) → before ≤ mid → Rose mid now → Rose before now
 rose_earlier before mid now later rose = omega arith

@@ -1,8 +1,8 @@
 -- Laws of builds.
-use Rattle.std.proofs.Common.{◌≡◌, ℕ, List, [], ◌∷◌, Option, Some, None, slice_get, refl, rules}
+use Rattle.std.proofs.Common.{◌≡◌, ℕ, List, [], ◌∷◌, Some, None, slice_get, refl}
 use Rattle.io_traits.specs.Files.{File, Files}
 use Rattle.mill_top.specs.SmallFiles.{small_of}
-use Rattle.mill_top.specs.Builds.{class_files, first_out_of_place, not_built, if_has, task_among, task_in}
+use Rattle.mill_top.specs.Builds.{class_files, first_out_of_place, not_built, if_has, task_among}
 
 pub not_built_first : (files : Files) (file : File) → first_out_of_place files ≡ Some file → not_built files ≡ Some file.0
 unfolding not_built

@@ -1,5 +1,5 @@
 -- Laws of the text of an entry.
-use Rattle.std.proofs.Common.{◌≡◌, ℕ, ℤ, ◌+◌, ◌-◌, ◌*◌, ◌<◌, ◌≤◌, ◌^◌, List, ◌++◌, length, take, drop, slice_index, codes, FitsSigned, IsUtf8, refl, sym, ap, subst, ◌∙◌, append_assoc, arith, length-append, length-take, length-drop, inl, inr, Result, Ok, Err, MatchResult}
+use Rattle.std.proofs.Common.{◌≡◌, ℕ, ℤ, ◌+◌, ◌-◌, ◌*◌, ◌<◌, ◌^◌, List, ◌++◌, length, take, drop, codes, FitsSigned, IsUtf8, refl, sym, ap, subst, ◌∙◌, append_assoc, arith, length-append, inl, inr, Result, Ok, Err, MatchResult}
 use Rattle.std.specs.Int.{w32}
 use Rattle.std.specs.Fmt.{signed_decimal}
 use Rattle.std.proofs.lemmas.Bool.{cases_lt}
@@ -11,7 +11,7 @@ use Rattle.hex.proofs.HexLemmas.{length-encode_with, decode_sized-encode_lower}
 use Rattle.hex.specs.declared.error.FromHexError.{FromHexError}
 use Rattle.tree_value.specs.Digests.{IsDigest}
 use Rattle.mill_top.specs.declared.entry.Entry.{Entry}
-use Rattle.mill_top.specs.Entries.{entry_text, IsWellFormed}
+use Rattle.mill_top.specs.Entries.{entry_text}
 use lib.Signed.{mag}
 
 pub digest_bytes : (digest : List ℕ) → IsDigest digest → IsBytes digest

@@ -1,11 +1,11 @@
 -- Equal input hashes are of equal class files, where no texts collide.
-use Rattle.std.proofs.Common.{◌≡◌, ℕ, zero, suc, ◌+◌, ◌<◌, ◌≤◌, ◌^◌, List, [], ◌∷◌, ◌++◌, length, codes, Option, Contains, flat_map, refl, sym, ap, subst, ◌∙◌, arith, length-append, lit<}
+use Rattle.std.proofs.Common.{◌≡◌, ℕ, zero, suc, ◌+◌, ◌<◌, ◌≤◌, ◌^◌, List, [], ◌∷◌, ◌++◌, length, codes, Contains, flat_map, refl, sym, ap, subst, ◌∙◌, arith, length-append, lit<}
 use Rattle.std.specs.Option.{option_map}
 use Rattle.std.specs.Fmt.{decimal}
 use Rattle.std.proofs.lemmas.List.Elements.{Contains-append_left, Contains-append_right}
 use Rattle.hex.specs.Hex.{encode_lower}
 use Rattle.sha2.specs.Sha256.{sha256}
-use Rattle.io_traits.specs.Files.{File, Files}
+use Rattle.io_traits.specs.Files.{Files}
 use Rattle.tree_value.specs.Nets.{net}
 use Rattle.tree_value.proofs.NetLemmas.{net-parts, same_net}
 use Rattle.tree_value.proofs.DigestLemmas.{IsDigest-sha256, same_hex}

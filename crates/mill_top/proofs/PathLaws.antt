@@ -1,11 +1,11 @@
 -- The names of a task's files are paths.
-use Rattle.std.proofs.Common.{◌≡◌, ℕ, zero, suc, ◌<◌, ◌≤◌, ◌==◌, Bool, true, false, cond, List, [], ◌∷◌, length, slice_index, get_or, codes, Contains, All, IsUtf8, IsAscii, refl, sym, ap, subst, ◌∙◌, inl, inr, arith, rules, lit<}
+use Rattle.std.proofs.Common.{◌≡◌, ℕ, zero, suc, ◌<◌, ◌≤◌, ◌==◌, Bool, true, false, List, [], ◌∷◌, length, codes, Contains, All, IsAscii, refl, sym, subst, inr, arith, lit<}
 use Rattle.std.specs.List.{AllByRecursion, slice_split}
 use Rattle.std.specs.Str.{byte}
 use Rattle.std.proofs.lemmas.Bool.{eqb-true}
 use Rattle.std.proofs.lemmas.Str.{IsUtf8-from_ascii}
 use Rattle.std.proofs.lemmas.List.Elements.{All-from_recursion}
-use Rattle.tree_value.specs.Paths.{IsPath, IsSegment, segments}
+use Rattle.tree_value.specs.Paths.{IsPath, IsSegment}
 
 -- a byte of ASCII that is neither NUL nor a slash
 pub record IsPlain (b : ℕ) : Type 0 where

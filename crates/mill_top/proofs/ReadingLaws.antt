@@ -1,14 +1,14 @@
 -- Laws of files in order and of reading them one by one.
-use Rattle.std.proofs.Common.{◌≡◌, ℕ, zero, suc, ◌+◌, ◌<◌, ◌≤◌, Bool, true, false, cond, List, [], ◌∷◌, ◌++◌, length, get_or, take, drop, map, Option, Some, None, IfSome, refl, sym, ap, subst, ◌∙◌, append_assoc, arith}
-use Rattle.std.specs.declared.cmp.Ordering.{Ordering}
-use Rattle.std.specs.declared.cmp.Ordering.TheVariants.{Less, Equal, Greater}
+use Rattle.std.proofs.Common.{◌≡◌, ℕ, zero, suc, ◌+◌, ◌<◌, ◌≤◌, false, cond, List, [], ◌∷◌, ◌++◌, length, get_or, take, Option, Some, None, IfSome, refl, sym, ap, subst, ◌∙◌, append_assoc, arith}
+use Rattle.std.specs.declared.cmp.Ordering.TheVariants.{Less}
 use Rattle.std.specs.Ordering.{is_eq, ordering_reverse, eq_by_cmp}
-use Rattle.std.specs.Cmp.{IsTotalOrder, tied_itself}
+use Rattle.std.specs.Cmp.{tied_itself}
 use Rattle.std.specs.List.{AllByRecursion}
 use Rattle.std.specs.List.Sorted.{IsStrictlySortedBy}
 use Rattle.std.proofs.lemmas.Cmp.{nat_list_cmp_total}
-use Rattle.std.proofs.lemmas.List.{take_more, take_all, append-nil, drop_more, drop_all, map-append}
-use Rattle.io_traits.specs.Files.{File, Files, byte_order, get, names, IsInOrder}
+use Rattle.std.proofs.lemmas.List.{take_more, take_all, append-nil, map-append}
+use Rattle.tree_value.specs.Trees.{path_cmp}
+use Rattle.io_traits.specs.Files.{File, Files, get, names, IsInOrder}
 use Rattle.mill_top.specs.Scratch.{file_of}
 
 all_without : (P : List ℕ → Type 0) (front : List (List ℕ)) (x : List ℕ) (rest : List (List ℕ)) → AllByRecursion P (front ++ x ∷ rest) → AllByRecursion P (front ++ rest)
@@ -18,7 +18,7 @@ all_without P (y ∷ front) x rest all = (all.0, all_without P front x rest all.
 in_order_without : (front : List (List ℕ)) (x : List ℕ) (rest : List (List ℕ)) → IsInOrder (front ++ x ∷ rest) → IsInOrder (front ++ rest)
 unfolding IsStrictlySortedBy
 in_order_without [] x rest up = up.1
-in_order_without (y ∷ front) x rest up = (all_without (λ z. byte_order y z ≡ Less) front x rest up.0, in_order_without front x rest up.1)
+in_order_without (y ∷ front) x rest up = (all_without (λ z. path_cmp y z ≡ Less) front x rest up.0, in_order_without front x rest up.1)
 
 -- the names so far and those that are left stay in order, whether the file at the front of these was found or not
 pub order_more : (files : Files) (found : Option (List ℕ)) (x : List ℕ) (rest : List (List ℕ)) → IsInOrder (names files ++ x ∷ rest)
@@ -40,7 +40,7 @@ length-names : (files : Files) → length (names files) ≡ length files
 length-names [] = refl
 length-names (file ∷ files) = ap suc (length-names files)
 
-greater : (x y : List ℕ) → byte_order x y ≡ Less → eq_by_cmp byte_order y x ≡ false
+greater : (x y : List ℕ) → path_cmp x y ≡ Less → eq_by_cmp path_cmp y x ≡ false
 greater x y less = ap is_eq (nat_list_cmp_total.antisymm y x ∙ ap ordering_reverse less)
 
 -- files in order have at each name the bytes that stand beside it
@@ -50,8 +50,8 @@ get_at [] i d up within = absurd (omega arith)
 get_at (file ∷ files) zero d up within = ap (λ o. cond (is_eq o) (Some file.1) (get files file.0)) (tied_itself nat_list_cmp_total file.0)
 get_at (file ∷ files) (suc i) d up within =
     let inside : i < length files = omega arith in
-    let less : byte_order file.0 (get_or files i d).0 ≡ Less =
-    subst (λ n. byte_order file.0 n ≡ Less) (name_at files i d) (all_at (λ n. byte_order file.0 n ≡ Less) (names files) i d.0 up.0 (omega (arith, length-names files))) in
+    let less : path_cmp file.0 (get_or files i d).0 ≡ Less =
+    subst (λ n. path_cmp file.0 n ≡ Less) (name_at files i d) (all_at (λ n. path_cmp file.0 n ≡ Less) (names files) i d.0 up.0 (omega (arith, length-names files))) in
     ap (λ b. cond b (Some file.1) (get files (get_or files i d).0)) (greater file.0 (get_or files i d).0 less) ∙ get_at files i d up.1 inside
 
 add_at : (files : Files) (i : ℕ) (d : File) (found : Option (List ℕ)) → IsInOrder (names files) → i < length files → found ≡ get files (get_or files i d).0

@@ -1,7 +1,5 @@
 -- What a store stands for after a run.
-use Rattle.std.proofs.Common.{◌≡◌, ◌≢◌, ℕ, ℤ, ◌<◌, ◌≤◌, ◌^◌, ◌+◌, ◌⊎◌, inl, inr, Bool, true, false, cond, not, List, [], ◌∷◌, ◌++◌, length, take, drop, codes, Option, Some, None, Contains, FitsSigned, refl, sym, ap, subst, ◌∙◌, arith, append_assoc, lit<}
-use Rattle.std.specs.Int.{w32}
-use Rattle.std.specs.Option.{option_map}
+use Rattle.std.proofs.Common.{◌≡◌, ◌≢◌, ℕ, ℤ, ◌+◌, ◌⊎◌, inl, inr, Bool, true, false, cond, not, List, [], ◌∷◌, ◌++◌, length, take, drop, codes, Option, Some, None, Contains, refl, sym, ap, subst, ◌∙◌, arith, append_assoc}
 use Rattle.std.specs.declared.cmp.Ordering.TheVariants.{Equal}
 use Rattle.std.specs.Ordering.{is_eq, eq_by_cmp}
 use Rattle.std.proofs.lemmas.Map.Views.{tells_apart}
@@ -13,20 +11,20 @@ use Rattle.std.proofs.lemmas.Fmt.{signed_decimal_injective}
 use Rattle.std.proofs.lemmas.Cmp.{nat_list_cmp_total}
 use Rattle.std.proofs.lemmas.List.{append_cancel_right, append-nil, same_from_push}
 use Rattle.std.proofs.lemmas.List.Elements.{Contains-append_left, Contains-push}
-use Rattle.io_traits.specs.Files.{File, Files, byte_order, get, insert, remove, put_in, take_out, LeftByPut}
+use Rattle.tree_value.specs.Trees.{path_cmp}
+use Rattle.io_traits.specs.Files.{Files, get, insert, remove, LeftByPut}
 use Rattle.tree_value.proofs.DigestLemmas.{IsDigest-sha256, same_hex}
-use Rattle.mill_top.specs.declared.class_file.SmallFile.{SmallFile}
 use Rattle.mill_top.specs.declared.entry.Entry.{Entry}
 use Rattle.mill_top.specs.declared.outcome.Outcome.{Outcome}
 use Rattle.mill_top.specs.declared.outcome.Outcome.TheVariants.{Returns}
 use Rattle.mill_top.specs.declared.recorded.Record.{Record}
 use Rattle.mill_top.specs.declared.takes.Found.{Found}
 use Rattle.mill_top.specs.declared.takes.Found.TheVariants.{Missing, Other, Same}
-use Rattle.mill_top.specs.Entries.{entry_name, log_name, entry_text, IsWellFormed, Reads}
+use Rattle.mill_top.specs.Entries.{entry_name, log_name, entry_text, IsWellFormed}
 use Rattle.mill_top.specs.Inputs.{input_hash, input_text, Run}
 use Rattle.mill_top.specs.Scratch.{scratch}
 use Rattle.mill_top.specs.Takes.{run_of, runs_of}
-use Rattle.mill_top.specs.Out.{entry_of, log_of, with_log, with_run, MayLeaveRun, after_take, MayLeaveTake, MayLeave}
+use Rattle.mill_top.specs.Out.{with_log, MayLeaveRun, after_take, MayLeaveTake, MayLeave}
 use Rattle.mill_top.specs.Standing.{IsOf, Stands, StandsIn}
 use Rattle.mill_top.proofs.EntryLaws.{length-entry_text, hash_in, value_in, mag_within}
 use Rattle.mill_top.proofs.TaskLaws.{scratch_fits}
@@ -57,7 +55,7 @@ BelongsTo task entry runs = (run : Run) × Contains runs run × (run.task ≡ ta
 abbrev IsGood : List ℕ → List ℕ → List Run → Type 0
 IsGood name bytes runs = (task : List ℕ) (entry : Entry) → entry_name task ≡ name → IsWellFormed entry → bytes ≡ entry_text task entry → BelongsTo task entry runs
 
-same_name : (a b : List ℕ) → eq_by_cmp byte_order a b ≡ true → a ≡ b
+same_name : (a b : List ℕ) → eq_by_cmp path_cmp a b ≡ true → a ≡ b
 same_name a b e = tells_apart exact_bytes a b e
 
 insert_found : (t : Bool) (bytes text : List ℕ) (old : Option (List ℕ)) → cond t (Some bytes) old ≡ Some text → ((t ≡ true) × (bytes ≡ text)) ⊎ (old ≡ Some text)
@@ -71,8 +69,8 @@ remove_found false text old e = cc
 stands_insert : (files : Files) (runs : List Run) (lost : List (List ℕ)) (name bytes : List ℕ) → Stands files runs lost → IsGood name bytes runs → Stands (insert files name bytes) runs lost
 stands_insert files runs lost name bytes stands good = record {
   entries = λ task entry reads.
-      elim (insert_found (eq_by_cmp byte_order (entry_name task) name) bytes (entry_text task entry) (get files (entry_name task))
-      (sym (entries.find-put byte_order nat_list_cmp_total (entry_name task) name bytes files) ∙ reads.text)) [
+      elim (insert_found (eq_by_cmp path_cmp (entry_name task) name) bytes (entry_text task entry) (get files (entry_name task))
+      (sym (entries.find-put path_cmp nat_list_cmp_total (entry_name task) name bytes files) ∙ reads.text)) [
         | inl (here, is) ↦ good task entry (same_name (entry_name task) name here) reads.form is
         | inr there ↦ stands.entries task entry (record { form = reads.form; text = there })
       ];
@@ -83,12 +81,12 @@ stands_remove files runs lost name stands = record {
   entries = λ task entry reads.
       stands.entries task entry (record {
         form = reads.form;
-        text = remove_found (not (eq_by_cmp byte_order name (entry_name task))) (entry_text task entry) (get files (entry_name task))
-            (sym (entries.find-where_key byte_order (λ n. not (eq_by_cmp byte_order name n)) (entry_name task) (alike (entry_name task) name) files) ∙ reads.text);
+        text = remove_found (not (eq_by_cmp path_cmp name (entry_name task))) (entry_text task entry) (get files (entry_name task))
+            (sym (entries.find-where_key path_cmp (λ n. not (eq_by_cmp path_cmp name n)) (entry_name task) (alike (entry_name task) name) files) ∙ reads.text);
       });
 } where
-  alike : (q name x : List ℕ) → byte_order q x ≡ Equal → not (eq_by_cmp byte_order name x) ≡ not (eq_by_cmp byte_order name q)
-  alike q name x ties = ap (λ n. not (eq_by_cmp byte_order name n)) (sym (same_name q x (ap is_eq ties)))
+  alike : (q name x : List ℕ) → path_cmp q x ≡ Equal → not (eq_by_cmp path_cmp name x) ≡ not (eq_by_cmp path_cmp name q)
+  alike q name x ties = ap (λ n. not (eq_by_cmp path_cmp name n)) (sym (same_name q x (ap is_eq ties)))
 
 stands_put : (old new : Option Files) (runs : List Run) (lost : List (List ℕ)) (name bytes : List ℕ) → LeftByPut name bytes old new → StandsIn old runs lost → IsGood name bytes runs → StandsIn new runs lost
 stands_put old new runs lost name bytes (inl same) stands good = subst (λ o. StandsIn o runs lost) (sym same) stands

@@ -5,7 +5,7 @@ use Rattle.std.specs.Option.{option_map}
 use Rattle.std.specs.Str.{bytes_eq}
 use Rattle.std.proofs.lemmas.Slice.Eq.{bytes_eq-Decides}
 use Rattle.std.proofs.lemmas.Bool.{leb-true}
-use Rattle.io_traits.specs.Files.{File, Files}
+use Rattle.io_traits.specs.Files.{Files}
 use Rattle.mill_top.specs.declared.class_file.SmallFile.{SmallFile}
 use Rattle.mill_top.specs.declared.outcome.Outcome.TheVariants.{Returns}
 use Rattle.mill_top.specs.declared.recorded.Record.{Record}

@@ -1,10 +1,10 @@
 -- What the top call owes, from what was done in it.
-use Rattle.std.proofs.Common.{◌≡◌, ◌≢◌, ℕ, ℤ, ◌≤◌, ◌⊎◌, inl, inr, List, [], ◌∷◌, ◌++◌, Option, Some, None, IfSome, IfNone, IsNone, Contains, flat_map, refl, sym, ap, subst, ◌∙◌, arith, lit<}
+use Rattle.std.proofs.Common.{◌≡◌, ℕ, ℤ, ◌⊎◌, inl, inr, List, [], ◌∷◌, ◌++◌, Option, Some, None, IfSome, IfNone, IsNone, refl, sym, ap, subst, ◌∙◌, arith}
 use Rattle.std.specs.List.{AllByRecursion}
 use Rattle.std.proofs.lemmas.List.Elements.{Contains-append_right}
 use Rattle.std.proofs.lemmas.List.{append-nil}
 use Rattle.io_traits.specs.Causes.{Rose}
-use Rattle.io_traits.specs.Files.{Files, get}
+use Rattle.io_traits.specs.Files.{Files}
 use Rattle.mill_top.specs.declared.entry.Entry.{Entry}
 use Rattle.mill_top.specs.declared.outcome.Outcome.{Outcome}
 use Rattle.mill_top.specs.declared.outcome.Outcome.TheVariants.{Returns}
@@ -15,14 +15,12 @@ use Rattle.mill_top.specs.declared.takes.Found.{Found}
 use Rattle.mill_top.specs.declared.takes.Found.TheVariants.{Missing, Other, Same}
 use Rattle.mill_top.specs.Builds.{not_built}
 use Rattle.mill_top.specs.Words.{asked}
-use Rattle.mill_top.specs.Entries.{entry_name, Reads}
 use Rattle.mill_top.specs.Inputs.{Run, texts, Clean, input_hash}
 use Rattle.mill_top.specs.Scratch.{scratch}
-use Rattle.mill_top.specs.Takes.{Why, IsWhy, Gives, runs_of}
-use Rattle.mill_top.specs.Out.{after_takes, MayLeave}
+use Rattle.mill_top.specs.Takes.{IsWhy, Gives}
 use Rattle.mill_top.specs.Replies.{refusal_by, refusal, reply_by, words_reply, reply_of}
-use Rattle.mill_top.specs.Standing.{IsOf, Stands, StandsIn}
-use Rattle.mill_top.specs.Answers.{IsUnlessMemory, IsRecordOf, IsUnread, IsEvaluation, IsValue, IsAnswer, IsAnswerTo, runs_in, all_texts, IsFromScratch}
+use Rattle.mill_top.specs.Standing.{StandsIn}
+use Rattle.mill_top.specs.Answers.{IsUnlessMemory, IsRecordOf, IsUnread, IsEvaluation, IsAnswer, IsAnswerTo, runs_in, all_texts, IsFromScratch}
 use Rattle.mill_top.proofs.InputLaws.{same_scratch}
 use Rattle.mill_top.proofs.StandingLaws.{stands_after}
 

@@ -1,5 +1,5 @@
 -- What a command is answered, and when.
-use Rattle.std.specs.Prelude.{◌≡◌, ◌≢◌, ◌⊎◌, ◌≤◌, ℕ, ℤ, List, [], ◌∷◌, ◌++◌, Option, Some, None, IfSome, IfNone, MatchOption, flat_map}
+use Rattle.std.specs.Prelude.{◌≡◌, ◌≢◌, ◌⊎◌, ◌≤◌, ℕ, ℤ, List, [], ◌∷◌, Option, Some, None, IfSome, IfNone, flat_map}
 use Rattle.std.specs.List.{AllByRecursion}
 use Rattle.io_traits.specs.Causes.{Rose}
 use Rattle.io_traits.specs.Files.{Files, get}
@@ -13,7 +13,7 @@ use Rattle.mill_top.specs.declared.takes.Found.{Found}
 use Rattle.mill_top.specs.declared.takes.Found.TheVariants.{Same}
 use Rattle.mill_top.specs.Words.{asked}
 use Rattle.mill_top.specs.Entries.{entry_name, Reads}
-use Rattle.mill_top.specs.Inputs.{Run, texts, Clean}
+use Rattle.mill_top.specs.Inputs.{Run, texts}
 use Rattle.mill_top.specs.Takes.{Why, IsNew, IsWhy, Gives, runs_of}
 use Rattle.mill_top.specs.Out.{log_of, with_run, MayLeaveRun, after_takes, MayLeave}
 use Rattle.mill_top.specs.Replies.{refusal, reply_of}

@@ -1,5 +1,5 @@
 -- The class files of a workspace, and which builds are read so far.
-use Rattle.std.specs.Prelude.{Bool, true, false, not, ℕ, List, [], ◌∷◌, ◌++◌, ◌&&◌, if◌then◌else◌, nat_eq, Option, Some, None, slice_get, codes}
+use Rattle.std.specs.Prelude.{Bool, false, not, ℕ, List, [], ◌∷◌, ◌++◌, ◌&&◌, if◌then◌else◌, nat_eq, Option, Some, None, slice_get, codes}
 use Rattle.std.specs.Option.{option_map, option_or}
 use Rattle.std.specs.List.{filter, find, starts_with, ends_with}
 use Rattle.std.specs.Str.{bytes_eq}

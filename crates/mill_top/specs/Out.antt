@@ -6,7 +6,7 @@ use Rattle.mill_top.specs.declared.outcome.Outcome.{Outcome}
 use Rattle.mill_top.specs.declared.outcome.Outcome.TheVariants.{Returns}
 use Rattle.mill_top.specs.declared.recorded.Record.{Record}
 use Rattle.mill_top.specs.declared.takes.Found.{Found}
-use Rattle.mill_top.specs.declared.takes.Found.TheVariants.{Missing, Other, Same}
+use Rattle.mill_top.specs.declared.takes.Found.TheVariants.{Same}
 use Rattle.mill_top.specs.Entries.{entry_name, log_name, entry_text}
 use Rattle.mill_top.specs.Inputs.{input_hash}
 use Rattle.mill_top.specs.Scratch.{scratch}

@@ -1,5 +1,5 @@
 -- The reply to a command, and what is printed.
-use Rattle.std.specs.Prelude.{◌≡◌, ℕ, ◌≤◌, List, [], ◌∷◌, ◌++◌, flat_map, take, length, codes, Option, Some, None, ◌⊎◌}
+use Rattle.std.specs.Prelude.{◌≡◌, ℕ, List, [], ◌∷◌, ◌++◌, flat_map, take, codes, Option, Some, None, ◌⊎◌}
 use Rattle.std.specs.Fmt.{signed_decimal}
 use Rattle.io_traits.specs.Streams.{Got}
 use Rattle.mill_top.specs.declared.outcome.Outcome.{Outcome}

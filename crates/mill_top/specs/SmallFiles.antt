@@ -1,5 +1,5 @@
 -- Small class files (JVMS 4.1): one class with one task, whose method returns an int constant.
-use Rattle.std.specs.Prelude.{Bool, ℕ, ℤ, pos, ◌-ℤ◌, List, set, slice_index, nat_le, ◌&&◌, ◌==◌, if◌then◌else◌, Option, Some, None, length}
+use Rattle.std.specs.Prelude.{Bool, ℕ, ℤ, pos, ◌-ℤ◌, List, set, slice_index, nat_le, ◌&&◌, if◌then◌else◌, Option, Some, None}
 use Rattle.std.specs.Str.{bytes_eq}
 use Rattle.mill_top.specs.declared.class_file.SmallFile.{SmallFile}
 use Rattle.mill_top.specs.declared.class_file.TheConstants.{TEMPLATE}

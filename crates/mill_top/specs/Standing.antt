@@ -1,8 +1,7 @@
 -- What the folder of results stands for.
-use Rattle.std.specs.Prelude.{◌≡◌, ℕ, List, [], Option, Some, None, Contains}
+use Rattle.std.specs.Prelude.{◌≡◌, ℕ, List, Option, Some, None, Contains}
 use Rattle.io_traits.specs.Files.{Files, get}
 use Rattle.mill_top.specs.declared.entry.Entry.{Entry}
-use Rattle.mill_top.specs.declared.outcome.Outcome.{Outcome}
 use Rattle.mill_top.specs.declared.outcome.Outcome.TheVariants.{Returns}
 use Rattle.mill_top.specs.Entries.{entry_name, Reads}
 use Rattle.mill_top.specs.Inputs.{Run, input_hash}

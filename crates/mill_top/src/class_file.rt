@@ -1,6 +1,6 @@
 //! The one form of class file that is read so far.
 
-ghost use Rattle.std.specs.Prelude.{◌≡◌, pos, ◌-ℤ◌};
+ghost use Rattle.std.specs.Prelude.{◌≡◌};
 ghost use Rattle.mill_top.specs.SmallFiles.{small_file, is_within, is_file_of, small_of, constant};
 
 /// The class file of `public class A { @Task(name="a") public static int a() { return 5; } }`, without a

@@ -1,17 +1,14 @@
 //! Taking a task: its entry is reused, or it is run and its log and entry are kept.
 
-ghost use Rattle.std.specs.Prelude.{◌≡◌, ◌≢◌, ◌⊎◌, ◌≤◌, ◌∷◌, ◌++◌, [], ℕ, ℤ, Some, None, Option, IfOk, IfSome, OnOk, OnErr, MatchOption, codes, length, FitsSigned};
+ghost use Rattle.std.specs.Prelude.{◌≡◌, ◌≢◌, ◌⊎◌, ◌≤◌, ◌∷◌, ◌++◌, [], ℤ, Some, None, Option, IfOk, IfSome, OnOk, OnErr, length, FitsSigned};
 ghost use Rattle.std.specs.Int.{w32};
-ghost use Rattle.std.specs.List.{AllByRecursion};
-ghost use Rattle.io_traits.specs.Causes.{Rose, HasCause};
+ghost use Rattle.io_traits.specs.Causes.{HasCause};
 ghost use Rattle.io_traits.specs.Files.{get, put_in, LeftByPut};
 ghost use Rattle.mill_top.specs.declared.entry.Entry.{Entry};
 ghost use Rattle.mill_top.specs.declared.takes.Found.{Found};
 ghost use Rattle.mill_top.specs.Builds.{task_in, not_built};
-ghost use Rattle.mill_top.specs.Entries.{entry_name, log_name, entry_text, Reads, IsFound, IsNamed, IsWellFormed};
+ghost use Rattle.mill_top.specs.Entries.{entry_name, log_name, IsFound, IsNamed, IsWellFormed};
 ghost use Rattle.mill_top.specs.Inputs.{input_hash};
-ghost use Rattle.mill_top.specs.Scratch.{scratch};
-ghost use Rattle.mill_top.specs.Out.{with_run, MayLeaveRun, entry_of, log_of};
 ghost use Rattle.mill_top.specs.SmallFiles.{constant};
 ghost use Rattle.mill_top.specs.Answers.{IsAnswer, IsEvaluation, IsReuse, IsKeptRun, IsRun, IsTake};
 ghost use Rattle.tree_value.specs.Paths.{IsPath};

@@ -1,6 +1,6 @@
 //! The input hash of a task.
 
-ghost use Rattle.std.specs.Prelude.{◌≡◌, ◌++◌, ◌∷◌, [], Some, IfOk, OnOk, codes};
+ghost use Rattle.std.specs.Prelude.{◌≡◌, ◌++◌, ◌∷◌, [], Some, IfOk, OnOk};
 ghost use Rattle.tree_value.specs.Nets.{net};
 ghost use Rattle.mill_top.specs.Builds.{task_in};
 ghost use Rattle.mill_top.specs.Inputs.{whole_row, method_text, input_text, input_hash};

@@ -1,6 +1,6 @@
 //! The top call.
 
-ghost use Rattle.std.specs.Prelude.{◌≡◌, ◌≢◌, ◌⊎◌, ◌++◌, ◌∷◌, [], ℕ, ℤ, List, take, Some, None, Option, IfOk, IfErr, IfSome, IsNone};
+ghost use Rattle.std.specs.Prelude.{◌≡◌, ◌⊎◌, ◌++◌, [], ℕ, List, take, Some, None, Option, IfOk, IfErr, IfSome, IsNone};
 ghost use Rattle.io_traits.specs.Causes.{Rose, HasCause};
 ghost use Rattle.io_traits.specs.Streams.{Got};
 ghost use Rattle.mill_top.specs.Builds.{not_built, task_in};

@@ -1,7 +1,7 @@
-use Rattle.std.proofs.Common.{◌≡◌, Some, None, ap, sym, ◌∙◌}
+use Rattle.std.proofs.Common.{ap, sym, ◌∙◌}
 use Rattle.std.specs.Option.{option_copied}
 use Rattle.mill_top.specs.SmallFiles.{small_of}
-use Rattle.mill_top.specs.Builds.{class_files, first_out_of_place, not_built, if_has, task_in}
+use Rattle.mill_top.specs.Builds.{if_has, task_in}
 use Rattle.mill_top.proofs.BuildLaws.{not_built_first, not_built_second, all_built, among_one, among_none}
 use Rattle.mill_top.proofs.builds.build.Goals as goal
 

@@ -1,4 +1,4 @@
-use Rattle.std.proofs.Common.{◌≡◌, Some, ◌∙◌, ap}
+use Rattle.std.proofs.Common.{Some, ◌∙◌, ap}
 use Rattle.mill_top.proofs.EntryLaws.{decoded}
 use Rattle.mill_top.proofs.entry.digest_of.Goals as goal
 

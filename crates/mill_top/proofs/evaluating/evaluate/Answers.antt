@@ -1,4 +1,4 @@
-use Rattle.std.proofs.Common.{◌≡◌, length, [], subst, sym, ap, refl, ◌∙◌, arith}
+use Rattle.std.proofs.Common.{length, [], subst, ap, refl, ◌∙◌, arith}
 use Rattle.mill_top.specs.declared.outcome.Outcome.TheVariants.{Returns}
 use Rattle.mill_top.specs.SmallFiles.{constant}
 use Rattle.mill_top.specs.Answers.{IsTake}

@@ -1,7 +1,5 @@
-use Rattle.std.proofs.Common.{◌≡◌, ℕ, ◌<◌, ◌≤◌, ◌==◌, false, List, ◌∷◌, [], ◌++◌, Some, codes, subst, sym, ap, refl, ◌∙◌, arith}
-use Rattle.io_traits.specs.Files.{Files}
+use Rattle.std.proofs.Common.{◌≡◌, ◌++◌, Some, codes, subst, sym, ap, ◌∙◌}
 use Rattle.tree_value.specs.Paths.{IsPath}
-use Rattle.mill_top.specs.declared.class_file.SmallFile.{SmallFile}
 use Rattle.mill_top.specs.Builds.{task_in}
 use Rattle.mill_top.specs.Inputs.{input_hash}
 use Rattle.mill_top.proofs.TaskLaws.{task_is, letter}

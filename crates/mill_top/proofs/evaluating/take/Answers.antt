@@ -1,4 +1,4 @@
-use Rattle.std.proofs.Common.{inl, inr, ◌≡◌, true, false, sym, ◌∙◌}
+use Rattle.std.proofs.Common.{inr, ◌≡◌}
 use Rattle.std.proofs.lemmas.Slice.Eq.{bytes_eq-Decides}
 use Rattle.mill_top.specs.declared.takes.Found.TheVariants.{Other}
 use Rattle.mill_top.proofs.AnswerLaws.{run_earlier, other_reason, found_reads}

@@ -1,4 +1,4 @@
-use Rattle.std.proofs.Common.{◌≡◌, ◌≤◌, ◌++◌, length, take, drop, map, IfSome}
+use Rattle.std.proofs.Common.{◌≡◌, ◌≤◌, ◌++◌, take, drop, IfSome}
 use Rattle.io_traits.specs.Files.{names, IsInOrder}
 use Rattle.mill_top.proofs.reading.read_files.Given as goal
 

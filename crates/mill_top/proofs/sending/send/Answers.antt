@@ -1,5 +1,4 @@
-use Rattle.std.proofs.Common.{arith, rules, ◌≡◌, sym, ◌∙◌}
-use Rattle.io_traits.specs.Streams.{Got}
+use Rattle.std.proofs.Common.{arith, sym, ◌∙◌}
 use Rattle.mill_top.proofs.SendingLaws.{got_more}
 use Rattle.mill_top.proofs.sending.send.Goals as goal
 

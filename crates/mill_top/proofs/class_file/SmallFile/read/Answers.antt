@@ -1,4 +1,4 @@
-use Rattle.std.proofs.Common.{sym, rules}
+use Rattle.std.proofs.Common.{sym}
 use Rattle.mill_top.proofs.SmallFileLaws.{other_length}
 use Rattle.mill_top.proofs.class_file.SmallFile.read.Goals as goal
 
