@@ -1,0 +1,11 @@
+//! The tables of the machine, and the decoding of its code: instructions, external classes and
+//! natives, each one constant array of plain rows whose laws are proved over the whole table.
+//! It stands on nothing of `mill`. Verifier, interpreter and method hashes read an instruction by
+//! `decode` and its row by `op_row`, and keep no list of opcodes of their own.
+#![tactic(auto)]
+
+mod instruction;
+mod opcodes;
+
+pub use instruction::{ConstantUse, Flow, Form, OpRow, Operands, Operation, Throws, ValueKind};
+pub use opcodes::{OPCODES, op_row};
