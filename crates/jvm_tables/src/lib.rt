@@ -4,8 +4,14 @@
 //! `decode` and its row by `op_row`, and keep no list of opcodes of their own.
 #![tactic(auto)]
 
+mod code;
+mod decoding;
 mod instruction;
 mod opcodes;
+mod reading;
+mod switches;
 
+pub use code::{CodeFault, Instr};
+pub use decoding::decode;
 pub use instruction::{ConstantUse, Flow, Form, OpRow, Operands, Operation, Throws, ValueKind};
-pub use opcodes::{OPCODES, op_row};
+pub use opcodes::{OPCODES, op_row, opcodes_stand_once};

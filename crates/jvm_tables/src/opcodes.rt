@@ -1,5 +1,8 @@
 //! The table of instructions.
 
+ghost use Rattle.std.specs.Prelude.{◌≡◌, IsTrue};
+ghost use Rattle.jvm_tables.specs.Opcodes.{row_of, find_row, stands_from};
+
 use crate::instruction::{ConstantUse, Flow, Form, OpRow, Operands, Operation, Throws, ValueKind};
 
 /// An instruction that has no operand of the opcode's own, names no constant, touches no local,
@@ -245,6 +248,24 @@ pub const OPCODES: [Option<OpRow>; 201] = [
 ];
 
 /// The row of an opcode. `None` where no instruction has it.
-pub fn op_row(op: u8) -> Option<OpRow> {
-    OPCODES.get(op as usize).copied().flatten()
+#[tactic(auto, unfolding(crate::specs::Opcodes::row_of))]
+pub fn op_row(op: u8) -> Option<OpRow>
+    ensures { result ≡ row_of op }
+{
+    row_in(&OPCODES, op)
+}
+
+// Constant time: each row stands at its own opcode.
+#[tactic(auto, using(crate::proofs::Rows::row_at, crate::proofs::Rows::row_past))]
+fn row_in(rows: &[Option<OpRow>], op: u8) -> Option<OpRow>
+    requires { IsTrue (stands_from 0 rows.now) }
+    ensures { result ≡ find_row op rows.now }
+{
+    if (op as usize) < rows.len() { rows[op as usize] } else { None }
+}
+
+/// Each row stands at its own opcode, so no opcode has two.
+pub fn opcodes_stand_once()
+    ensures { IsTrue (stands_from 0 OPCODES) }
+{
 }
