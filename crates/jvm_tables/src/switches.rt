@@ -1,6 +1,6 @@
 //! The switches (JVMS 6.5, `tableswitch` and `lookupswitch`).
 
-ghost use Rattle.std.specs.Prelude.{◌≡◌, ◌+◌, ◌-◌, ◌*◌, ◌<◌, ◌≤◌, ◌^◌, length};
+ghost use Rattle.std.specs.Prelude.{◌≡◌, ◌+◌, ◌-◌, ◌*◌, ◌<◌, ◌≤◌, ◌^◌, length, int_lt};
 ghost use Rattle.jvm_tables.specs.Switches.{word, padding, switch_instr, keys_rise, lookup_pairs, table_switch, lookup_switch};
 
 use crate::code::{CodeFault, Instr};
@@ -71,13 +71,22 @@ fn word(bytes: &[u8], at: usize) -> i32
     i32::from_be_bytes([bytes[at], bytes[at + 1], bytes[at + 2], bytes[at + 3]])
 }
 
+// Whether the key of a pair is below that of the next one.
+fn rises(bytes: &[u8], at: usize) -> bool
+    requires { at + 12 ≤ length bytes.now }
+    ensures { result ≡ int_lt (word bytes.now at) (word bytes.now (at + 8)) }
+{
+    word(bytes, at) < word(bytes, at + 8)
+}
+
 // Whether so many pairs, from a place on, have their keys in rising order.
+#[tactic(auto, using(crate::proofs::Pairs::rise_on, crate::proofs::Pairs::fall, crate::proofs::Pairs::last_rises))]
 fn keys_rise(bytes: &[u8], at: usize, count: usize) -> bool
     requires { at + 8 * count ≤ length bytes.now }
     ensures { result ≡ keys_rise (lookup_pairs count at bytes.now) }
 {
     for k in 1..count {
-        if word(bytes, at + 8 * k) <= word(bytes, at + 8 * (k - 1)) {
+        if !rises(bytes, at + 8 * (k - 1)) {
             return false;
         }
     }
