@@ -1,3 +1,5 @@
 pub mod Decoding
+pub mod Externals
+pub mod Natives
 pub mod Opcodes
 pub mod Switches
