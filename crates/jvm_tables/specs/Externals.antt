@@ -6,6 +6,7 @@ use Rattle.std.specs.Str.{bytes_eq}
 use Rattle.std.specs.Cmp.Lexicographic.{slice_cmp}
 use Rattle.jvm_tables.specs.declared.externals.ExternalMethod.{ExternalMethod}
 use Rattle.jvm_tables.specs.declared.externals.ExternalRow.{ExternalRow}
+use Rattle.jvm_tables.specs.declared.externals.Family.{Family}
 use Rattle.jvm_tables.specs.declared.externals.TheConstants.{EXTERNALS}
 
 -- a method by its class, name and descriptor
@@ -22,6 +23,7 @@ pub record External : Type 0 where
   pub is_interface : Bool
   pub is_abstract : Bool
   pub is_extensible : Bool
+  pub family : Family
   pub abstract_method : Option Method
 
 abbrev pub method_named : List ℕ → Option (List ℕ × List ℕ) → Option Method
@@ -33,7 +35,7 @@ abbrev pub Text : Type 0
 Text = Bor (List ℕ)
 
 abbrev pub Facts : Type 0
-Facts = Text × Option Text × Bor (List Text) × Bool × Bool × Bool × Option (Text × Text)
+Facts = Text × Option Text × Bor (List Text) × Bool × Bool × Bool × Family × Option (Text × Text)
 
 -- what a row of the constant states
 abbrev pub stated : Facts → External
@@ -45,7 +47,8 @@ stated facts =
       is_interface = facts.3;
       is_abstract = facts.4;
       is_extensible = facts.5;
-      abstract_method = method_named facts.0.now (option_map (λ m. (m.0.now, m.1.now)) facts.6)
+      family = facts.6;
+      abstract_method = method_named facts.0.now (option_map (λ m. (m.0.now, m.1.now)) facts.7)
     }
 
 abbrev pub all_stated : List Facts → List External
@@ -62,7 +65,8 @@ externals =
         is_interface = facts.3;
         is_abstract = facts.4;
         is_extensible = facts.5;
-        abstract_method = method_named facts.0.now (option_map (λ m. (m.0.now, m.1.now)) facts.6)
+        family = facts.6;
+        abstract_method = method_named facts.0.now (option_map (λ m. (m.0.now, m.1.now)) facts.7)
       }) EXTERNALS
 
 -- the first row of that name, and its place in a table that begins at a place
@@ -88,6 +92,7 @@ said row =
         is_interface = row.is_interface;
         is_abstract = row.is_abstract;
         is_extensible = row.is_extensible;
+        family = row.family;
         abstract_method = option_map method_said row.abstract_method
       })
 

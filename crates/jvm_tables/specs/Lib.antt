@@ -1,3 +1,4 @@
+pub mod Callbacks
 pub mod Decoding
 pub mod Externals
 pub mod Natives

@@ -1,40 +1,35 @@
 -- The table of natives. Names and descriptors are lists of bytes.
-use Rattle.std.specs.Prelude.{ℕ, ◌+◌, Bool, true, false, ◌&&◌, if◌then◌else◌, List, [], ◌∷◌, map, Option, Some, None, option_map}
-use Rattle.std.specs.Ordering.{is_lt, nat_cmp, ordering_then}
+use Rattle.std.specs.Prelude.{ℕ, ◌+◌, ◌==◌, Bool, true, false, ◌&&◌, if◌then◌else◌, List, [], ◌∷◌, map, Option, Some, None}
 use Rattle.std.specs.Str.{bytes_eq}
-use Rattle.std.specs.Cmp.Lexicographic.{slice_cmp}
+use Rattle.jvm_tables.specs.declared.externals.Family.{Family}
+use Rattle.jvm_tables.specs.declared.externals.Family.TheVariants as families
+use Rattle.jvm_tables.specs.declared.natives.Callback.{Callback}
 use Rattle.jvm_tables.specs.declared.natives.NativeRow.{NativeRow}
 use Rattle.jvm_tables.specs.declared.natives.TheConstants.{NATIVES}
-use Rattle.jvm_tables.specs.Externals.{Method, Text, method_said}
+use Rattle.jvm_tables.specs.Externals.{External, Text, external_of}
 
 -- what the table states of a native
 pub record Native : Type 0 where
   pub class : List ℕ
+  pub family : Family
   pub name : List ℕ
   pub descriptor : List ℕ
   pub is_static : Bool
-  pub is_of_arrays : Bool
-  pub calls_back : Option Method
-
-abbrev pub MethodFacts : Type 0
-MethodFacts = Text × Text × Text
-
-abbrev pub method_stated : MethodFacts → Method
-method_stated facts = record { class = facts.0.now; name = facts.1.now; descriptor = facts.2.now }
+  pub calls_back : Option Callback
 
 abbrev pub Facts : Type 0
-Facts = Text × Text × Text × Bool × Bool × Option MethodFacts
+Facts = Text × Family × Text × Text × Bool × Option Callback
 
 -- what a row of the constant states
 abbrev pub stated : Facts → Native
 stated facts =
     record {
       class = facts.0.now;
-      name = facts.1.now;
-      descriptor = facts.2.now;
-      is_static = facts.3;
-      is_of_arrays = facts.4;
-      calls_back = option_map method_stated facts.5
+      family = facts.1;
+      name = facts.2.now;
+      descriptor = facts.3.now;
+      is_static = facts.4;
+      calls_back = facts.5
     }
 
 abbrev pub all_stated : List Facts → List Native
@@ -46,23 +41,51 @@ natives =
     map (λ facts.
       record {
         class = facts.0.now;
-        name = facts.1.now;
-        descriptor = facts.2.now;
-        is_static = facts.3;
-        is_of_arrays = facts.4;
-        calls_back = option_map (λ m. record { class = m.0.now; name = m.1.now; descriptor = m.2.now }) facts.5
+        family = facts.1;
+        name = facts.2.now;
+        descriptor = facts.3.now;
+        is_static = facts.4;
+        calls_back = facts.5
       }) NATIVES
 
--- the row is of this class, name and descriptor
-abbrev pub has_key : List ℕ → List ℕ → List ℕ → Native → Bool
-has_key class name descriptor row =
-    bytes_eq row.name name && bytes_eq row.descriptor descriptor && bytes_eq row.class class
+-- the name of an array's class begins with a bracket, whose code is 91
+abbrev pub is_array : List ℕ → Bool
+is_array [] = false
+is_array (c ∷ _) = c == 91
 
--- the first row of a key, and its place in a table that begins at a place
+abbrev pub in_lists : Family → Bool
+in_lists families.Lists = true
+in_lists _ = false
+
+abbrev pub in_throwables : Family → Bool
+in_throwables families.Throwables = true
+in_throwables _ = false
+
+abbrev pub is_list : Option (ℕ × External) → Bool
+is_list None = false
+is_list (Some found) = in_lists found.1.family
+
+abbrev pub is_throwable : Option (ℕ × External) → Bool
+is_throwable None = false
+is_throwable (Some found) = in_throwables found.1.family
+
+-- a native of the owner and the family stands on the class
+abbrev pub stands_on : List ℕ → Family → List ℕ → Bool
+stands_on owner families.Alone class = bytes_eq owner class
+stands_on owner families.Arrays class = is_array class
+stands_on owner families.Lists class = is_list (external_of class)
+stands_on owner families.Throwables class = is_throwable (external_of class)
+
+-- the row is that of this method
+abbrev pub is_native : List ℕ → List ℕ → List ℕ → Native → Bool
+is_native class name descriptor row =
+    bytes_eq row.name name && bytes_eq row.descriptor descriptor && stands_on row.class row.family class
+
+-- the first row of a method, and its place in a table that begins at a place
 abbrev pub native_from : ℕ → List ℕ → List ℕ → List ℕ → List Native → Option (ℕ × Native)
 native_from at class name descriptor [] = None
 native_from at class name descriptor (row ∷ rows) =
-    if has_key class name descriptor row then Some (at, row) else native_from (at + 1) class name descriptor rows
+    if is_native class name descriptor row then Some (at, row) else native_from (at + 1) class name descriptor rows
 
 -- the row of a class, name and descriptor, and its place
 abbrev pub native_of : List ℕ → List ℕ → List ℕ → Option (ℕ × Native)
@@ -74,20 +97,9 @@ said row =
     (row.at,
       record {
         class = row.class.now;
+        family = row.family;
         name = row.name.now;
         descriptor = row.descriptor.now;
         is_static = row.is_static;
-        is_of_arrays = row.is_of_arrays;
-        calls_back = option_map method_said row.calls_back
+        calls_back = row.calls_back
       })
-
--- the key of a row comes before that of another: by class, then name, then descriptor
-abbrev pub key_before : Native → Native → Bool
-key_before a b =
-    is_lt (ordering_then (slice_cmp nat_cmp a.class b.class) (ordering_then (slice_cmp nat_cmp a.name b.name) (slice_cmp nat_cmp a.descriptor b.descriptor)))
-
--- each key comes before the next one
-abbrev pub keys_rise : List Native → Bool
-keys_rise [] = true
-keys_rise (a ∷ []) = true
-keys_rise (a ∷ b ∷ rows) = key_before a b && keys_rise (b ∷ rows)

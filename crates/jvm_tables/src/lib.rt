@@ -15,7 +15,7 @@ mod switches;
 
 pub use code::{CodeFault, Instr};
 pub use decoding::decode;
-pub use externals::{EXTERNALS, ExternalFacts, ExternalMethod, ExternalRow, external, external_names_rise};
+pub use externals::{EXTERNALS, ExternalFacts, ExternalMethod, ExternalRow, Family, external, external_names_rise};
 pub use instruction::{ConstantUse, Flow, Form, OpRow, Operands, Operation, Throws, ValueKind};
-pub use natives::{NATIVES, NativeFacts, NativeRow, native_keys_rise, native_row};
+pub use natives::{Callback, NATIVES, NativeFacts, NativeRow, native_row};
 pub use opcodes::{OPCODES, op_row, opcodes_stand_once};

@@ -1,281 +1,180 @@
 //! The table of natives: the methods of external classes that the machine itself runs.
 
 ghost use Rattle.std.specs.Prelude.{◌≡◌, ◌<◌, ◌^◌, IsTrue, length, option_map};
-ghost use Rattle.jvm_tables.specs.Externals.{method_said};
-ghost use Rattle.jvm_tables.specs.Natives.{native_from, native_of, natives, all_stated, stated, said, has_key, method_stated, keys_rise};
+ghost use Rattle.jvm_tables.specs.Externals.{method_said, said as external_said, external_of};
+ghost use Rattle.jvm_tables.specs.Natives.{native_from, native_of, natives, all_stated, stated, said, is_native, stands_on, is_list, is_throwable};
 
-use crate::externals::ExternalMethod;
+use crate::externals::{ExternalMethod, ExternalRow, Family, external};
+
+/// The method that a native calls back, on an argument or an element.
+#[derive(Clone, Copy, Drop)]
+pub enum Callback {
+    ToString,
+    Equals,
+    /// `Consumer.accept`.
+    Accept,
+    /// `Function.apply`.
+    Apply,
+    /// `BiFunction.apply`.
+    ApplyTwo,
+    /// `Predicate.test`.
+    Test,
+}
 
 /// The row of a native method.
 #[derive(Clone, Copy, Drop)]
 pub struct NativeRow {
     /// Its place in the table.
     pub at: u32,
+    /// The class that has it, or the first one of the family that has it.
     pub class: &'static str,
+    /// Whether each class of a family has it, or that class alone.
+    pub family: Family,
     pub name: &'static str,
     pub descriptor: &'static str,
     pub is_static: bool,
-    /// Whether it is a method of arrays alone, which find it in `java/lang/Object`.
-    pub is_of_arrays: bool,
-    /// The method that it may call, on an argument or an element.
-    pub calls_back: Option<ExternalMethod>,
+    pub calls_back: Option<Callback>,
 }
 
-/// Class, name and descriptor of a method.
-type MethodFacts = (&'static str, &'static str, &'static str);
+/// What the table states of a native: its class, family, name and descriptor, whether it is static,
+/// and what it calls back.
+pub type NativeFacts = (&'static str, Family, &'static str, &'static str, bool, Option<Callback>);
 
-/// What the table states of a native: its class, name and descriptor, whether it is static and
-/// whether it is of arrays alone, and what it calls back.
-pub type NativeFacts = (&'static str, &'static str, &'static str, bool, bool, Option<MethodFacts>);
-
-const NONE: Option<MethodFacts> = None;
-const TO_STRING: Option<MethodFacts> = Some(("java/lang/Object", "toString", "()Ljava/lang/String;"));
-const EQUALS: Option<MethodFacts> = Some(("java/lang/Object", "equals", "(Ljava/lang/Object;)Z"));
-const ACCEPT: Option<MethodFacts> = Some(("java/util/function/Consumer", "accept", "(Ljava/lang/Object;)V"));
-const APPLY: Option<MethodFacts> = Some(("java/util/function/Function", "apply", "(Ljava/lang/Object;)Ljava/lang/Object;"));
-const APPLY_TWO: Option<MethodFacts> = Some(("java/util/function/BiFunction", "apply", "(Ljava/lang/Object;Ljava/lang/Object;)Ljava/lang/Object;"));
-const TEST: Option<MethodFacts> = Some(("java/util/function/Predicate", "test", "(Ljava/lang/Object;)Z"));
-
-// The rows of a class, and the same rows for every throwable.
-macro_rules! natives {
-    ([$($rows:tt)*]) => { [$($rows)*] };
-    ([$($rows:tt)*] class $class:literal { $(($name:literal, $descriptor:literal, $is_static:literal, $is_of_arrays:literal, $calls_back:expr),)* } $($rest:tt)*) => {
-        natives!([$($rows)* $(($class, $name, $descriptor, $is_static, $is_of_arrays, $calls_back),)*] $($rest)*)
-    };
-    ([$($rows:tt)*] throwable $class:literal; $($rest:tt)*) => {
-        natives!([
-            $($rows)*
-                ($class, "<init>", "()V", false, false, NONE),
-                ($class, "<init>", "(Ljava/lang/String;)V", false, false, NONE),
-                ($class, "<init>", "(Ljava/lang/String;Ljava/lang/Throwable;)V", false, false, NONE),
-                ($class, "<init>", "(Ljava/lang/Throwable;)V", false, false, TO_STRING),
-                ($class, "addSuppressed", "(Ljava/lang/Throwable;)V", false, false, NONE),
-                ($class, "getCause", "()Ljava/lang/Throwable;", false, false, NONE),
-                ($class, "getMessage", "()Ljava/lang/String;", false, false, NONE),
-                ($class, "toString", "()Ljava/lang/String;", false, false, NONE),
-        ] $($rest)*)
+macro_rules! rows {
+    ($(($class:literal, $family:ident, $name:literal, $descriptor:literal, $is_static:literal $(, $calls_back:ident)?),)*) => {
+        [$(($class, Family::$family, $name, $descriptor, $is_static, callback!($($calls_back)?)),)*]
     };
 }
 
-/// The natives, in the order of the bytes of class, name and descriptor.
-pub static NATIVES: [NativeFacts; 378] = natives! {
-    []
-    throwable "java/io/IOException";
-    throwable "java/lang/AbstractMethodError";
-    throwable "java/lang/ArithmeticException";
-    throwable "java/lang/ArrayIndexOutOfBoundsException";
-    throwable "java/lang/ArrayStoreException";
-    class "java/lang/Boolean" {
-        ("booleanValue", "()Z", false, false, NONE),
-        ("equals", "(Ljava/lang/Object;)Z", false, false, NONE),
-        ("hashCode", "()I", false, false, NONE),
-        ("toString", "()Ljava/lang/String;", false, false, NONE),
-        ("valueOf", "(Z)Ljava/lang/Boolean;", true, false, NONE),
-    }
-    throwable "java/lang/ClassCastException";
-    class "java/lang/Enum" {
-        ("<init>", "(Ljava/lang/String;I)V", false, false, NONE),
-        ("name", "()Ljava/lang/String;", false, false, NONE),
-        ("ordinal", "()I", false, false, NONE),
-        ("toString", "()Ljava/lang/String;", false, false, NONE),
-    }
-    throwable "java/lang/Error";
-    throwable "java/lang/Exception";
-    throwable "java/lang/ExceptionInInitializerError";
-    throwable "java/lang/IllegalArgumentException";
-    throwable "java/lang/IllegalStateException";
-    throwable "java/lang/IncompatibleClassChangeError";
-    throwable "java/lang/IndexOutOfBoundsException";
-    throwable "java/lang/InstantiationError";
-    class "java/lang/Integer" {
-        ("equals", "(Ljava/lang/Object;)Z", false, false, NONE),
-        ("hashCode", "()I", false, false, NONE),
-        ("intValue", "()I", false, false, NONE),
-        ("longValue", "()J", false, false, NONE),
-        ("parseInt", "(Ljava/lang/String;)I", true, false, NONE),
-        ("sum", "(II)I", true, false, NONE),
-        ("toString", "()Ljava/lang/String;", false, false, NONE),
-        ("toString", "(I)Ljava/lang/String;", true, false, NONE),
-        ("valueOf", "(I)Ljava/lang/Integer;", true, false, NONE),
-    }
-    throwable "java/lang/LinkageError";
-    class "java/lang/Long" {
-        ("equals", "(Ljava/lang/Object;)Z", false, false, NONE),
-        ("hashCode", "()I", false, false, NONE),
-        ("intValue", "()I", false, false, NONE),
-        ("longValue", "()J", false, false, NONE),
-        ("parseLong", "(Ljava/lang/String;)J", true, false, NONE),
-        ("sum", "(JJ)J", true, false, NONE),
-        ("toString", "()Ljava/lang/String;", false, false, NONE),
-        ("toString", "(J)Ljava/lang/String;", true, false, NONE),
-        ("valueOf", "(J)Ljava/lang/Long;", true, false, NONE),
-    }
-    class "java/lang/Math" {
-        ("abs", "(I)I", true, false, NONE),
-        ("abs", "(J)J", true, false, NONE),
-        ("max", "(II)I", true, false, NONE),
-        ("max", "(JJ)J", true, false, NONE),
-        ("min", "(II)I", true, false, NONE),
-        ("min", "(JJ)J", true, false, NONE),
-    }
-    throwable "java/lang/NegativeArraySizeException";
-    throwable "java/lang/NoClassDefFoundError";
-    throwable "java/lang/NoSuchFieldError";
-    throwable "java/lang/NoSuchMethodError";
-    throwable "java/lang/NullPointerException";
-    throwable "java/lang/NumberFormatException";
-    class "java/lang/Object" {
-        ("<init>", "()V", false, false, NONE),
-        ("clone", "()Ljava/lang/Object;", false, true, NONE),
-        ("equals", "(Ljava/lang/Object;)Z", false, false, NONE),
-        ("hashCode", "()I", false, false, NONE),
-        ("toString", "()Ljava/lang/String;", false, false, NONE),
-    }
-    throwable "java/lang/RuntimeException";
-    class "java/lang/String" {
-        ("charAt", "(I)C", false, false, NONE),
-        ("compareTo", "(Ljava/lang/String;)I", false, false, NONE),
-        ("concat", "(Ljava/lang/String;)Ljava/lang/String;", false, false, NONE),
-        ("contains", "(Ljava/lang/CharSequence;)Z", false, false, NONE),
-        ("endsWith", "(Ljava/lang/String;)Z", false, false, NONE),
-        ("equals", "(Ljava/lang/Object;)Z", false, false, NONE),
-        ("hashCode", "()I", false, false, NONE),
-        ("indexOf", "(Ljava/lang/String;)I", false, false, NONE),
-        ("isEmpty", "()Z", false, false, NONE),
-        ("length", "()I", false, false, NONE),
-        ("startsWith", "(Ljava/lang/String;)Z", false, false, NONE),
-        ("substring", "(I)Ljava/lang/String;", false, false, NONE),
-        ("substring", "(II)Ljava/lang/String;", false, false, NONE),
-        ("toString", "()Ljava/lang/String;", false, false, NONE),
-        ("valueOf", "(C)Ljava/lang/String;", true, false, NONE),
-        ("valueOf", "(I)Ljava/lang/String;", true, false, NONE),
-        ("valueOf", "(J)Ljava/lang/String;", true, false, NONE),
-        ("valueOf", "(Ljava/lang/Object;)Ljava/lang/String;", true, false, TO_STRING),
-        ("valueOf", "(Z)Ljava/lang/String;", true, false, NONE),
-    }
-    class "java/lang/StringBuilder" {
-        ("<init>", "()V", false, false, NONE),
-        ("<init>", "(Ljava/lang/String;)V", false, false, NONE),
-        ("append", "(C)Ljava/lang/StringBuilder;", false, false, NONE),
-        ("append", "(I)Ljava/lang/StringBuilder;", false, false, NONE),
-        ("append", "(J)Ljava/lang/StringBuilder;", false, false, NONE),
-        ("append", "(Ljava/lang/Object;)Ljava/lang/StringBuilder;", false, false, TO_STRING),
-        ("append", "(Ljava/lang/String;)Ljava/lang/StringBuilder;", false, false, NONE),
-        ("append", "(Z)Ljava/lang/StringBuilder;", false, false, NONE),
-        ("length", "()I", false, false, NONE),
-        ("toString", "()Ljava/lang/String;", false, false, NONE),
-    }
-    throwable "java/lang/StringIndexOutOfBoundsException";
-    throwable "java/lang/Throwable";
-    throwable "java/lang/UnsatisfiedLinkError";
-    throwable "java/lang/UnsupportedOperationException";
-    class "java/util/ArrayList" {
-        ("<init>", "()V", false, false, NONE),
-        ("<init>", "(I)V", false, false, NONE),
-        ("add", "(Ljava/lang/Object;)Z", false, false, NONE),
-        ("contains", "(Ljava/lang/Object;)Z", false, false, EQUALS),
-        ("equals", "(Ljava/lang/Object;)Z", false, false, NONE),
-        ("forEach", "(Ljava/util/function/Consumer;)V", false, false, ACCEPT),
-        ("get", "(I)Ljava/lang/Object;", false, false, NONE),
-        ("hashCode", "()I", false, false, NONE),
-        ("indexOf", "(Ljava/lang/Object;)I", false, false, EQUALS),
-        ("isEmpty", "()Z", false, false, NONE),
-        ("iterator", "()Ljava/util/Iterator;", false, false, NONE),
-        ("set", "(ILjava/lang/Object;)Ljava/lang/Object;", false, false, NONE),
-        ("size", "()I", false, false, NONE),
-        ("toString", "()Ljava/lang/String;", false, false, TO_STRING),
-    }
-    class "java/util/Collection" {
-        ("add", "(Ljava/lang/Object;)Z", false, false, NONE),
-        ("contains", "(Ljava/lang/Object;)Z", false, false, EQUALS),
-        ("equals", "(Ljava/lang/Object;)Z", false, false, NONE),
-        ("forEach", "(Ljava/util/function/Consumer;)V", false, false, ACCEPT),
-        ("get", "(I)Ljava/lang/Object;", false, false, NONE),
-        ("hashCode", "()I", false, false, NONE),
-        ("indexOf", "(Ljava/lang/Object;)I", false, false, EQUALS),
-        ("isEmpty", "()Z", false, false, NONE),
-        ("iterator", "()Ljava/util/Iterator;", false, false, NONE),
-        ("set", "(ILjava/lang/Object;)Ljava/lang/Object;", false, false, NONE),
-        ("size", "()I", false, false, NONE),
-        ("toString", "()Ljava/lang/String;", false, false, TO_STRING),
-    }
-    class "java/util/Iterator" {
-        ("hasNext", "()Z", false, false, NONE),
-        ("next", "()Ljava/lang/Object;", false, false, NONE),
-    }
-    class "java/util/List" {
-        ("add", "(Ljava/lang/Object;)Z", false, false, NONE),
-        ("contains", "(Ljava/lang/Object;)Z", false, false, EQUALS),
-        ("equals", "(Ljava/lang/Object;)Z", false, false, NONE),
-        ("forEach", "(Ljava/util/function/Consumer;)V", false, false, ACCEPT),
-        ("get", "(I)Ljava/lang/Object;", false, false, NONE),
-        ("hashCode", "()I", false, false, NONE),
-        ("indexOf", "(Ljava/lang/Object;)I", false, false, EQUALS),
-        ("isEmpty", "()Z", false, false, NONE),
-        ("iterator", "()Ljava/util/Iterator;", false, false, NONE),
-        ("of", "()Ljava/util/List;", true, false, NONE),
-        ("of", "(Ljava/lang/Object;)Ljava/util/List;", true, false, NONE),
-        ("of", "(Ljava/lang/Object;Ljava/lang/Object;)Ljava/util/List;", true, false, NONE),
-        ("of", "(Ljava/lang/Object;Ljava/lang/Object;Ljava/lang/Object;)Ljava/util/List;", true, false, NONE),
-        ("of", "(Ljava/lang/Object;Ljava/lang/Object;Ljava/lang/Object;Ljava/lang/Object;)Ljava/util/List;", true, false, NONE),
-        ("of", "(Ljava/lang/Object;Ljava/lang/Object;Ljava/lang/Object;Ljava/lang/Object;Ljava/lang/Object;)Ljava/util/List;", true, false, NONE),
-        ("of", "(Ljava/lang/Object;Ljava/lang/Object;Ljava/lang/Object;Ljava/lang/Object;Ljava/lang/Object;Ljava/lang/Object;)Ljava/util/List;", true, false, NONE),
-        ("of", "(Ljava/lang/Object;Ljava/lang/Object;Ljava/lang/Object;Ljava/lang/Object;Ljava/lang/Object;Ljava/lang/Object;Ljava/lang/Object;)Ljava/util/List;", true, false, NONE),
-        ("of", "(Ljava/lang/Object;Ljava/lang/Object;Ljava/lang/Object;Ljava/lang/Object;Ljava/lang/Object;Ljava/lang/Object;Ljava/lang/Object;Ljava/lang/Object;)Ljava/util/List;", true, false, NONE),
-        ("of", "(Ljava/lang/Object;Ljava/lang/Object;Ljava/lang/Object;Ljava/lang/Object;Ljava/lang/Object;Ljava/lang/Object;Ljava/lang/Object;Ljava/lang/Object;Ljava/lang/Object;)Ljava/util/List;", true, false, NONE),
-        ("of", "(Ljava/lang/Object;Ljava/lang/Object;Ljava/lang/Object;Ljava/lang/Object;Ljava/lang/Object;Ljava/lang/Object;Ljava/lang/Object;Ljava/lang/Object;Ljava/lang/Object;Ljava/lang/Object;)Ljava/util/List;", true, false, NONE),
-        ("of", "([Ljava/lang/Object;)Ljava/util/List;", true, false, NONE),
-        ("set", "(ILjava/lang/Object;)Ljava/lang/Object;", false, false, NONE),
-        ("size", "()I", false, false, NONE),
-        ("toString", "()Ljava/lang/String;", false, false, TO_STRING),
-    }
-    throwable "java/util/NoSuchElementException";
-    class "java/util/Objects" {
-        ("equals", "(Ljava/lang/Object;Ljava/lang/Object;)Z", true, false, EQUALS),
-        ("requireNonNull", "(Ljava/lang/Object;)Ljava/lang/Object;", true, false, NONE),
-    }
-    throwable "mill/BadValue";
-    throwable "mill/Denied";
-    class "mill/Env" {
-        ("get", "(Ljava/lang/String;)Ljava/lang/String;", true, false, NONE),
-        ("now", "()J", true, false, NONE),
-    }
-    class "mill/FixedList" {
-        ("add", "(Ljava/lang/Object;)Z", false, false, NONE),
-        ("contains", "(Ljava/lang/Object;)Z", false, false, EQUALS),
-        ("equals", "(Ljava/lang/Object;)Z", false, false, NONE),
-        ("forEach", "(Ljava/util/function/Consumer;)V", false, false, ACCEPT),
-        ("get", "(I)Ljava/lang/Object;", false, false, NONE),
-        ("hashCode", "()I", false, false, NONE),
-        ("indexOf", "(Ljava/lang/Object;)I", false, false, EQUALS),
-        ("isEmpty", "()Z", false, false, NONE),
-        ("iterator", "()Ljava/util/Iterator;", false, false, NONE),
-        ("set", "(ILjava/lang/Object;)Ljava/lang/Object;", false, false, NONE),
-        ("size", "()I", false, false, NONE),
-        ("toString", "()Ljava/lang/String;", false, false, TO_STRING),
-    }
-    class "mill/Fs" {
-        ("dest", "(Ljava/lang/String;)Lmill/PathRef;", true, false, NONE),
-        ("list", "(Lmill/PathRef;)Ljava/util/List;", true, false, NONE),
-        ("read", "(Lmill/PathRef;Ljava/lang/String;)Ljava/lang/String;", true, false, NONE),
-        ("size", "(Lmill/PathRef;Ljava/lang/String;)J", true, false, NONE),
-        ("write", "(Ljava/lang/String;Ljava/lang/String;)V", true, false, NONE),
-    }
-    class "mill/Lists" {
-        ("each", "(Ljava/util/List;Ljava/util/function/Consumer;)V", true, false, ACCEPT),
-        ("filter", "(Ljava/util/List;Ljava/util/function/Predicate;)Ljava/util/List;", true, false, TEST),
-        ("fold", "(Ljava/util/List;Ljava/lang/Object;Ljava/util/function/BiFunction;)Ljava/lang/Object;", true, false, APPLY_TWO),
-        ("map", "(Ljava/util/List;Ljava/util/function/Function;)Ljava/util/List;", true, false, APPLY),
-    }
-    class "mill/Log" {
-        ("info", "(Ljava/lang/String;)V", true, false, NONE),
-    }
-    class "mill/PathRef" {
-        ("sub", "(Ljava/lang/String;)Lmill/PathRef;", false, false, NONE),
-    }
-};
+macro_rules! callback {
+    () => { None };
+    ($calls_back:ident) => { Some(Callback::$calls_back) };
+}
 
-/// The row of a native, by its class, name and descriptor.
+/// The natives.
+pub static NATIVES: [NativeFacts; 118] = rows! [
+    ("java/lang/Object", Alone, "<init>", "()V", false),
+    ("java/lang/Object", Alone, "toString", "()Ljava/lang/String;", false),
+    ("java/lang/Object", Alone, "hashCode", "()I", false),
+    ("java/lang/Object", Alone, "equals", "(Ljava/lang/Object;)Z", false),
+    ("java/lang/Object", Arrays, "clone", "()Ljava/lang/Object;", false),
+    ("java/lang/String", Alone, "length", "()I", false),
+    ("java/lang/String", Alone, "isEmpty", "()Z", false),
+    ("java/lang/String", Alone, "charAt", "(I)C", false),
+    ("java/lang/String", Alone, "substring", "(I)Ljava/lang/String;", false),
+    ("java/lang/String", Alone, "substring", "(II)Ljava/lang/String;", false),
+    ("java/lang/String", Alone, "indexOf", "(Ljava/lang/String;)I", false),
+    ("java/lang/String", Alone, "startsWith", "(Ljava/lang/String;)Z", false),
+    ("java/lang/String", Alone, "endsWith", "(Ljava/lang/String;)Z", false),
+    ("java/lang/String", Alone, "concat", "(Ljava/lang/String;)Ljava/lang/String;", false),
+    ("java/lang/String", Alone, "compareTo", "(Ljava/lang/String;)I", false),
+    ("java/lang/String", Alone, "equals", "(Ljava/lang/Object;)Z", false),
+    ("java/lang/String", Alone, "hashCode", "()I", false),
+    ("java/lang/String", Alone, "toString", "()Ljava/lang/String;", false),
+    ("java/lang/String", Alone, "contains", "(Ljava/lang/CharSequence;)Z", false),
+    ("java/lang/String", Alone, "valueOf", "(I)Ljava/lang/String;", true),
+    ("java/lang/String", Alone, "valueOf", "(J)Ljava/lang/String;", true),
+    ("java/lang/String", Alone, "valueOf", "(Z)Ljava/lang/String;", true),
+    ("java/lang/String", Alone, "valueOf", "(C)Ljava/lang/String;", true),
+    ("java/lang/String", Alone, "valueOf", "(Ljava/lang/Object;)Ljava/lang/String;", true, ToString),
+    ("java/lang/StringBuilder", Alone, "<init>", "()V", false),
+    ("java/lang/StringBuilder", Alone, "<init>", "(Ljava/lang/String;)V", false),
+    ("java/lang/StringBuilder", Alone, "toString", "()Ljava/lang/String;", false),
+    ("java/lang/StringBuilder", Alone, "length", "()I", false),
+    ("java/lang/StringBuilder", Alone, "append", "(Ljava/lang/String;)Ljava/lang/StringBuilder;", false),
+    ("java/lang/StringBuilder", Alone, "append", "(I)Ljava/lang/StringBuilder;", false),
+    ("java/lang/StringBuilder", Alone, "append", "(J)Ljava/lang/StringBuilder;", false),
+    ("java/lang/StringBuilder", Alone, "append", "(C)Ljava/lang/StringBuilder;", false),
+    ("java/lang/StringBuilder", Alone, "append", "(Z)Ljava/lang/StringBuilder;", false),
+    ("java/lang/StringBuilder", Alone, "append", "(Ljava/lang/Object;)Ljava/lang/StringBuilder;", false, ToString),
+    ("java/lang/Integer", Alone, "valueOf", "(I)Ljava/lang/Integer;", true),
+    ("java/lang/Integer", Alone, "parseInt", "(Ljava/lang/String;)I", true),
+    ("java/lang/Integer", Alone, "toString", "(I)Ljava/lang/String;", true),
+    ("java/lang/Integer", Alone, "sum", "(II)I", true),
+    ("java/lang/Integer", Alone, "intValue", "()I", false),
+    ("java/lang/Integer", Alone, "longValue", "()J", false),
+    ("java/lang/Integer", Alone, "equals", "(Ljava/lang/Object;)Z", false),
+    ("java/lang/Integer", Alone, "hashCode", "()I", false),
+    ("java/lang/Integer", Alone, "toString", "()Ljava/lang/String;", false),
+    ("java/lang/Long", Alone, "valueOf", "(J)Ljava/lang/Long;", true),
+    ("java/lang/Long", Alone, "parseLong", "(Ljava/lang/String;)J", true),
+    ("java/lang/Long", Alone, "toString", "(J)Ljava/lang/String;", true),
+    ("java/lang/Long", Alone, "sum", "(JJ)J", true),
+    ("java/lang/Long", Alone, "intValue", "()I", false),
+    ("java/lang/Long", Alone, "longValue", "()J", false),
+    ("java/lang/Long", Alone, "equals", "(Ljava/lang/Object;)Z", false),
+    ("java/lang/Long", Alone, "hashCode", "()I", false),
+    ("java/lang/Long", Alone, "toString", "()Ljava/lang/String;", false),
+    ("java/lang/Boolean", Alone, "valueOf", "(Z)Ljava/lang/Boolean;", true),
+    ("java/lang/Boolean", Alone, "booleanValue", "()Z", false),
+    ("java/lang/Boolean", Alone, "equals", "(Ljava/lang/Object;)Z", false),
+    ("java/lang/Boolean", Alone, "hashCode", "()I", false),
+    ("java/lang/Boolean", Alone, "toString", "()Ljava/lang/String;", false),
+    ("java/lang/Math", Alone, "abs", "(I)I", true),
+    ("java/lang/Math", Alone, "abs", "(J)J", true),
+    ("java/lang/Math", Alone, "max", "(II)I", true),
+    ("java/lang/Math", Alone, "max", "(JJ)J", true),
+    ("java/lang/Math", Alone, "min", "(II)I", true),
+    ("java/lang/Math", Alone, "min", "(JJ)J", true),
+    ("java/util/Objects", Alone, "requireNonNull", "(Ljava/lang/Object;)Ljava/lang/Object;", true),
+    ("java/util/Objects", Alone, "equals", "(Ljava/lang/Object;Ljava/lang/Object;)Z", true, Equals),
+    ("java/lang/Enum", Alone, "<init>", "(Ljava/lang/String;I)V", false),
+    ("java/lang/Enum", Alone, "name", "()Ljava/lang/String;", false),
+    ("java/lang/Enum", Alone, "ordinal", "()I", false),
+    ("java/lang/Enum", Alone, "toString", "()Ljava/lang/String;", false),
+    ("java/util/ArrayList", Alone, "<init>", "()V", false),
+    ("java/util/ArrayList", Alone, "<init>", "(I)V", false),
+    ("java/util/Collection", Lists, "size", "()I", false),
+    ("java/util/Collection", Lists, "isEmpty", "()Z", false),
+    ("java/util/Collection", Lists, "get", "(I)Ljava/lang/Object;", false),
+    ("java/util/Collection", Lists, "set", "(ILjava/lang/Object;)Ljava/lang/Object;", false),
+    ("java/util/Collection", Lists, "add", "(Ljava/lang/Object;)Z", false),
+    ("java/util/Collection", Lists, "contains", "(Ljava/lang/Object;)Z", false, Equals),
+    ("java/util/Collection", Lists, "indexOf", "(Ljava/lang/Object;)I", false, Equals),
+    ("java/util/Collection", Lists, "iterator", "()Ljava/util/Iterator;", false),
+    ("java/util/Collection", Lists, "forEach", "(Ljava/util/function/Consumer;)V", false, Accept),
+    ("java/util/Collection", Lists, "toString", "()Ljava/lang/String;", false, ToString),
+    ("java/util/Collection", Lists, "equals", "(Ljava/lang/Object;)Z", false),
+    ("java/util/Collection", Lists, "hashCode", "()I", false),
+    ("java/util/List", Alone, "of", "()Ljava/util/List;", true),
+    ("java/util/List", Alone, "of", "(Ljava/lang/Object;)Ljava/util/List;", true),
+    ("java/util/List", Alone, "of", "(Ljava/lang/Object;Ljava/lang/Object;)Ljava/util/List;", true),
+    ("java/util/List", Alone, "of", "(Ljava/lang/Object;Ljava/lang/Object;Ljava/lang/Object;)Ljava/util/List;", true),
+    ("java/util/List", Alone, "of", "(Ljava/lang/Object;Ljava/lang/Object;Ljava/lang/Object;Ljava/lang/Object;)Ljava/util/List;", true),
+    ("java/util/List", Alone, "of", "(Ljava/lang/Object;Ljava/lang/Object;Ljava/lang/Object;Ljava/lang/Object;Ljava/lang/Object;)Ljava/util/List;", true),
+    ("java/util/List", Alone, "of", "(Ljava/lang/Object;Ljava/lang/Object;Ljava/lang/Object;Ljava/lang/Object;Ljava/lang/Object;Ljava/lang/Object;)Ljava/util/List;", true),
+    ("java/util/List", Alone, "of", "(Ljava/lang/Object;Ljava/lang/Object;Ljava/lang/Object;Ljava/lang/Object;Ljava/lang/Object;Ljava/lang/Object;Ljava/lang/Object;)Ljava/util/List;", true),
+    ("java/util/List", Alone, "of", "(Ljava/lang/Object;Ljava/lang/Object;Ljava/lang/Object;Ljava/lang/Object;Ljava/lang/Object;Ljava/lang/Object;Ljava/lang/Object;Ljava/lang/Object;)Ljava/util/List;", true),
+    ("java/util/List", Alone, "of", "(Ljava/lang/Object;Ljava/lang/Object;Ljava/lang/Object;Ljava/lang/Object;Ljava/lang/Object;Ljava/lang/Object;Ljava/lang/Object;Ljava/lang/Object;Ljava/lang/Object;)Ljava/util/List;", true),
+    ("java/util/List", Alone, "of", "(Ljava/lang/Object;Ljava/lang/Object;Ljava/lang/Object;Ljava/lang/Object;Ljava/lang/Object;Ljava/lang/Object;Ljava/lang/Object;Ljava/lang/Object;Ljava/lang/Object;Ljava/lang/Object;)Ljava/util/List;", true),
+    ("java/util/List", Alone, "of", "([Ljava/lang/Object;)Ljava/util/List;", true),
+    ("java/util/Iterator", Alone, "hasNext", "()Z", false),
+    ("java/util/Iterator", Alone, "next", "()Ljava/lang/Object;", false),
+    ("java/lang/Throwable", Throwables, "<init>", "()V", false),
+    ("java/lang/Throwable", Throwables, "<init>", "(Ljava/lang/String;)V", false),
+    ("java/lang/Throwable", Throwables, "<init>", "(Ljava/lang/String;Ljava/lang/Throwable;)V", false),
+    ("java/lang/Throwable", Throwables, "<init>", "(Ljava/lang/Throwable;)V", false, ToString),
+    ("java/lang/Throwable", Throwables, "getMessage", "()Ljava/lang/String;", false),
+    ("java/lang/Throwable", Throwables, "getCause", "()Ljava/lang/Throwable;", false),
+    ("java/lang/Throwable", Throwables, "addSuppressed", "(Ljava/lang/Throwable;)V", false),
+    ("java/lang/Throwable", Throwables, "toString", "()Ljava/lang/String;", false),
+    ("mill/Lists", Alone, "map", "(Ljava/util/List;Ljava/util/function/Function;)Ljava/util/List;", true, Apply),
+    ("mill/Lists", Alone, "filter", "(Ljava/util/List;Ljava/util/function/Predicate;)Ljava/util/List;", true, Test),
+    ("mill/Lists", Alone, "fold", "(Ljava/util/List;Ljava/lang/Object;Ljava/util/function/BiFunction;)Ljava/lang/Object;", true, ApplyTwo),
+    ("mill/Lists", Alone, "each", "(Ljava/util/List;Ljava/util/function/Consumer;)V", true, Accept),
+    ("mill/Fs", Alone, "read", "(Lmill/PathRef;Ljava/lang/String;)Ljava/lang/String;", true),
+    ("mill/Fs", Alone, "size", "(Lmill/PathRef;Ljava/lang/String;)J", true),
+    ("mill/Fs", Alone, "list", "(Lmill/PathRef;)Ljava/util/List;", true),
+    ("mill/Fs", Alone, "write", "(Ljava/lang/String;Ljava/lang/String;)V", true),
+    ("mill/Fs", Alone, "dest", "(Ljava/lang/String;)Lmill/PathRef;", true),
+    ("mill/PathRef", Alone, "sub", "(Ljava/lang/String;)Lmill/PathRef;", false),
+    ("mill/Log", Alone, "info", "(Ljava/lang/String;)V", true),
+    ("mill/Env", Alone, "get", "(Ljava/lang/String;)Ljava/lang/String;", true),
+    ("mill/Env", Alone, "now", "()J", true),
+];
+
+/// The row of a native, by its class, name and descriptor. A class of arrays has its name as in a
+/// Class constant, as `[I`.
 #[tactic(auto, unfolding(crate::specs::Natives::natives))]
 pub fn native_row(class: &[u8], name: &[u8], descriptor: &[u8]) -> Option<NativeRow>
     ensures { option_map said result ≡ native_of class.now name.now descriptor.now }
@@ -297,30 +196,58 @@ fn find_native(rows: &[NativeFacts], class: &[u8], name: &[u8], descriptor: &[u8
 
 // Whether the row is that of a method.
 fn is_native(facts: &NativeFacts, class: &[u8], name: &[u8], descriptor: &[u8]) -> bool
-    ensures { result ≡ has_key class.now name.now descriptor.now (stated facts.now) }
+    ensures { result ≡ is_native class.now name.now descriptor.now (stated facts.now) }
 {
-    facts.1.as_bytes() == name && facts.2.as_bytes() == descriptor && facts.0.as_bytes() == class
+    facts.2.as_bytes() == name && facts.3.as_bytes() == descriptor && stands_on(facts.0, facts.1, class)
+}
+
+// Whether a native of that class and family stands on a class.
+fn stands_on(owner: &str, family: Family, class: &[u8]) -> bool
+    ensures { result ≡ stands_on owner.now family class.now }
+{
+    match family {
+        Family::Alone => owner.as_bytes() == class,
+        Family::Arrays => matches!(class, [b'[', ..]),
+        Family::Lists => is_list(external(class)),
+        Family::Throwables => is_throwable(external(class)),
+    }
+}
+
+fn is_list(row: Option<ExternalRow>) -> bool
+    ensures { result ≡ is_list (option_map external_said row) }
+{
+    matches!(row, Some(ExternalRow { family: Family::Lists, .. }))
+}
+
+fn is_throwable(row: Option<ExternalRow>) -> bool
+    ensures { result ≡ is_throwable (option_map external_said row) }
+{
+    matches!(row, Some(ExternalRow { family: Family::Throwables, .. }))
 }
 
 fn native_at(at: u32, facts: &NativeFacts) -> NativeRow
     ensures { said result ≡ (at, stated facts.now) }
 {
-    let (class, name, descriptor, is_static, is_of_arrays, method) = *facts;
-    NativeRow { at, class, name, descriptor, is_static, is_of_arrays, calls_back: callback(method) }
+    let (class, family, name, descriptor, is_static, calls_back) = *facts;
+    NativeRow { at, class, family, name, descriptor, is_static, calls_back }
 }
 
-fn callback(method: Option<MethodFacts>) -> Option<ExternalMethod>
-    ensures { option_map method_said result ≡ option_map method_stated method.entry }
-{
-    match method {
-        None => None,
-        Some((class, name, descriptor)) => Some(ExternalMethod { class, name, descriptor }),
+impl Callback {
+    ghost use Rattle.jvm_tables.specs.Callbacks.{called_back};
+
+    /// The method, by the class that declares it.
+    pub fn method(self) -> ExternalMethod
+        ensures { method_said result ≡ called_back self }
+    {
+        let object = "java/lang/Object";
+        let (class, name, descriptor) = match self {
+            Callback::ToString => (object, "toString", "()Ljava/lang/String;"),
+            Callback::Equals => (object, "equals", "(Ljava/lang/Object;)Z"),
+            Callback::Accept => ("java/util/function/Consumer", "accept", "(Ljava/lang/Object;)V"),
+            Callback::Apply => ("java/util/function/Function", "apply", "(Ljava/lang/Object;)Ljava/lang/Object;"),
+            Callback::ApplyTwo => ("java/util/function/BiFunction", "apply", "(Ljava/lang/Object;Ljava/lang/Object;)Ljava/lang/Object;"),
+            Callback::Test => ("java/util/function/Predicate", "test", "(Ljava/lang/Object;)Z"),
+        };
+        ExternalMethod { class, name, descriptor }
     }
-}
-
-/// The keys are in rising order, so no native has two rows.
-#[tactic(auto, unfolding(crate::specs::Natives::natives))]
-pub fn native_keys_rise()
-    ensures { IsTrue (keys_rise natives) }
-{
 }
