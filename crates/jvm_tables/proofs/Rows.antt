@@ -2,9 +2,9 @@
 use Rattle.std.proofs.Common.{◌≡◌, ◌≢◌, ℕ, suc, zero, ◌+◌, ◌<◌, ◌≤◌, List, [], ◌∷◌, Bool, true, false, ◌&&◌, Option, Some, None, refl, sym, ◌∙◌, ap, subst, arith, IsTrue, eqb, length, get_or, cond}
 use Rattle.std.proofs.lemmas.Bool.{eqb-true, eq-eqb}
 use Rattle.jvm_tables.specs.declared.instruction.OpRow.{OpRow}
-use Rattle.jvm_tables.specs.Opcodes.{find_row, stands_from}
+use Rattle.jvm_tables.specs.Opcodes.{find_row, stands_from, every}
 
-both : (a b : Bool) → (a && b) ≡ true → (a ≡ true) × (b ≡ true)
+pub both : (a b : Bool) → (a && b) ≡ true → (a ≡ true) × (b ≡ true)
 both true b h = (refl, h)
 both false b h = cc
 
@@ -55,3 +55,20 @@ row_at rows op d s h = placed op 0 rows d h s ∙ ap (λ n. find_row n rows) (om
 -- and past the last place there is none
 pub row_past : (rows : List (Option OpRow)) (op : ℕ) → IsTrue (stands_from 0 rows) → length rows ≤ op → find_row op rows ≡ None
 row_past rows op s h = past op 0 rows (omega arith) s
+
+-- the row that is found has the opcode
+pub row_opcode : (op : ℕ) (rows : List (Option OpRow)) (row : OpRow) → find_row op rows ≡ Some row → row.opcode ≡ op
+row_opcode op [] row h = cc
+row_opcode op (None ∷ rows) row h = row_opcode op rows row h
+row_opcode op (Some first ∷ rows) row h =
+    elim (eqb first.opcode op) as (λ v. eqb first.opcode op ≡ v → cond v (Some first) (find_row op rows) ≡ Some row → row.opcode ≡ op)
+    [ true ↦ λ e f. let same : first ≡ row = cc in subst (λ (r : OpRow). r.opcode ≡ op) same (eqb-true first.opcode op e) | false ↦ λ e f. row_opcode op rows row f ] refl h
+
+-- and passes what each row passes
+pub row_passes : (test : OpRow → Bool) (op : ℕ) (rows : List (Option OpRow)) (row : OpRow) → every test rows ≡ true → find_row op rows ≡ Some row → test row ≡ true
+row_passes test op [] row a h = cc
+row_passes test op (None ∷ rows) row a h = row_passes test op rows row a h
+row_passes test op (Some first ∷ rows) row a h =
+    let parts : (test first ≡ true) × (every test rows ≡ true) = both _ _ a in
+    elim (eqb first.opcode op) as (λ v. cond v (Some first) (find_row op rows) ≡ Some row → test row ≡ true)
+    [ true ↦ λ f. let same : first ≡ row = cc in subst (λ (r : OpRow). test r ≡ true) same parts.0 | false ↦ λ f. row_passes test op rows row parts.1 f ] h

@@ -18,3 +18,9 @@ abbrev pub stands_from : ℕ → List (Option OpRow) → Bool
 stands_from at [] = true
 stands_from at (None ∷ rows) = stands_from (at + 1) rows
 stands_from at (Some row ∷ rows) = (row.opcode == at) && stands_from (at + 1) rows
+
+-- each row passes the test
+abbrev pub every : (OpRow → Bool) → List (Option OpRow) → Bool
+every test [] = true
+every test (None ∷ rows) = every test rows
+every test (Some row ∷ rows) = test row && every test rows

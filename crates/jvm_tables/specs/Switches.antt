@@ -1,9 +1,12 @@
 -- Numbers in the code, and the switches (JVMS 6.5, tableswitch and lookupswitch).
-use Rattle.std.specs.Prelude.{ℕ, zero, suc, ◌+◌, ◌-◌, ◌*◌, ◌%◌, Bool, true, false, ◌&&◌, nat_lt, if◌then◌else◌, List, [], ◌∷◌, length, slice_index, Result, Ok, Err, ℤ, pos, ◌+ℤ◌, ◌-ℤ◌, int_lt, unsigned_abs}
-use Rattle.std.specs.Int.{w16, w32, from_be_bytes, cast_signed}
+use Rattle.std.specs.Prelude.{ℕ, zero, suc, ◌+◌, ◌-◌, ◌*◌, ◌%◌, Bool, true, false, ◌&&◌, nat_lt, if◌then◌else◌, List, [], ◌∷◌, length, slice_index, Result, Ok, Err, ℤ, pos, ◌+ℤ◌, ◌-ℤ◌, int_lt, unsigned_abs, ◌^◌, ◌≤◌, ◌≡◌}
+use Rattle.std.specs.Ordering.{int_eq}
+use Rattle.std.specs.Int.{w16, w32, from_be_bytes, cast_signed, cast_unsigned}
 use Rattle.jvm_tables.specs.declared.code.CodeFault.{CodeFault}
 use Rattle.jvm_tables.specs.declared.code.CodeFault.TheVariants.{CutShort, BadOperand}
 use Rattle.jvm_tables.specs.declared.code.Instr.{Instr}
+use Rattle.jvm_tables.specs.declared.instruction.Form.{Form}
+use Rattle.jvm_tables.specs.declared.instruction.Form.TheVariants as forms
 use Rattle.jvm_tables.specs.declared.instruction.OpRow.{OpRow}
 
 infixl 10 ◌>>=◌
@@ -78,3 +81,39 @@ lookup_switch pc row bytes = do
     else if keys_rise (lookup_pairs (unsigned_abs count) (padding pc + 8) bytes)
     then Ok (switch_instr pc row (1 + lookup_size pc (unsigned_abs count)) default)
     else Err BadOperand
+
+-- The pairs of key and offset of a switch at pc, of the bytes behind its opcode.
+unfoldable pub table_switch_pairs : ℕ → List ℕ → List (ℤ × ℤ)
+table_switch_pairs pc bytes =
+    let low : ℤ = word bytes (padding pc + 4) in
+    let high : ℤ = word bytes (padding pc + 8) in
+    table_pairs (unsigned_abs (high -ℤ low) + 1) low (padding pc + 12) bytes
+
+unfoldable pub lookup_switch_pairs : ℕ → List ℕ → List (ℤ × ℤ)
+lookup_switch_pairs pc bytes = lookup_pairs (unsigned_abs (word bytes (padding pc + 4))) (padding pc + 8) bytes
+
+abbrev pub pairs_of : Form → ℕ → List ℕ → List (ℤ × ℤ)
+pairs_of forms.TableSwitch pc bytes = table_switch_pairs pc bytes
+pairs_of forms.LookupSwitch pc bytes = lookup_switch_pairs pc bytes
+pairs_of _ pc bytes = []
+
+-- the offset of a key, else the default
+abbrev pub chosen : ℤ → ℤ → List (ℤ × ℤ) → ℤ
+chosen default key [] = default
+chosen default key (p ∷ pairs) = if int_eq p.0 key then p.1 else chosen default key pairs
+
+-- where an offset leads to, modulo 2 ^ 32
+abbrev pub target : ℕ → ℤ → ℕ
+target pc offset = (pc + cast_unsigned w32 offset) % 2 ^ 32
+
+-- the bytes behind the opcode hold a whole tableswitch
+pub record IsTable (pc : ℕ) (bytes : List ℕ) : Type 0 where
+  pub header : padding pc + 12 ≤ length bytes
+  pub bounds : int_lt (word bytes (padding pc + 8)) (word bytes (padding pc + 4)) ≡ false
+  pub whole : table_size pc (word bytes (padding pc + 4)) (word bytes (padding pc + 8)) ≤ length bytes
+
+-- the bytes behind the opcode hold a whole lookupswitch
+pub record IsLookup (pc : ℕ) (bytes : List ℕ) : Type 0 where
+  pub header : padding pc + 8 ≤ length bytes
+  pub whole : lookup_size pc (unsigned_abs (word bytes (padding pc + 4))) ≤ length bytes
+  pub rising : keys_rise (lookup_switch_pairs pc bytes) ≡ true

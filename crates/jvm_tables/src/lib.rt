@@ -12,10 +12,12 @@ mod natives;
 mod opcodes;
 mod reading;
 mod switches;
+mod switching;
 
 pub use code::{CodeFault, Instr};
 pub use decoding::decode;
 pub use externals::{EXTERNALS, ExternalFacts, ExternalMethod, ExternalRow, Family, external, external_names_rise};
 pub use instruction::{ConstantUse, Flow, Form, OpRow, Operands, Operation, Throws, ValueKind};
 pub use natives::{Callback, NATIVES, NativeFacts, NativeRow, native_row};
-pub use opcodes::{OPCODES, op_row, opcodes_stand_once};
+pub use opcodes::{OPCODES, op_row, opcodes_agree_with_their_forms, opcodes_stand_once};
+pub use switching::switch_target;

@@ -1,7 +1,8 @@
 //! The table of instructions.
 
 ghost use Rattle.std.specs.Prelude.{◌≡◌, IsTrue};
-ghost use Rattle.jvm_tables.specs.Opcodes.{row_of, find_row, stands_from};
+ghost use Rattle.jvm_tables.specs.Agreement.{agrees};
+ghost use Rattle.jvm_tables.specs.Opcodes.{row_of, find_row, stands_from, every};
 
 use crate::instruction::{ConstantUse, Flow, Form, OpRow, Operands, Operation, Throws, ValueKind};
 
@@ -43,7 +44,7 @@ macro_rules! row {
 
 /// The rows of the opcodes 0x00 to 0xc8 (JVMS 6.5), each at its own place; `None` for an opcode
 /// that no instruction has. Those from 0xc9 on are unknown too.
-pub const OPCODES: [Option<OpRow>; 201] = [
+pub static OPCODES: [Option<OpRow>; 201] = [
     row!(0x00, Nop, Bare, 1, Nothing -> Nothing),
     row!(0x01, PushNull, Bare, 1, Nothing -> Reference),
     row!(0x02, PushInt, Bare, 1, Nothing -> Int, implied: -1),
@@ -56,10 +57,10 @@ pub const OPCODES: [Option<OpRow>; 201] = [
     row!(0x09, PushLong, Bare, 1, Nothing -> Long),
     row!(0x0a, PushLong, Bare, 1, Nothing -> Long, implied: 1),
     row!(0x0b, Float, Bare, 1, Float -> Float, is_float: true),
-    row!(0x0c, Float, Bare, 1, Float -> Float, is_float: true),
-    row!(0x0d, Float, Bare, 1, Float -> Float, is_float: true),
+    row!(0x0c, Float, Bare, 1, Float -> Float, implied: 1, is_float: true),
+    row!(0x0d, Float, Bare, 1, Float -> Float, implied: 2, is_float: true),
     row!(0x0e, Float, Bare, 1, Float -> Float, is_float: true),
-    row!(0x0f, Float, Bare, 1, Float -> Float, is_float: true),
+    row!(0x0f, Float, Bare, 1, Float -> Float, implied: 1, is_float: true),
     row!(0x10, PushInt, Byte, 2, Nothing -> Int),
     row!(0x11, PushInt, Short, 3, Nothing -> Int),
     row!(0x12, PushConstant, ByteConstant, 2, Nothing -> ByConstant, constant: ConstantUse::Loadable, throws: Throws::Constant),
@@ -79,21 +80,21 @@ pub const OPCODES: [Option<OpRow>; 201] = [
     row!(0x20, LoadLong, Bare, 1, Nothing -> Long, implied: 2, reads: Some(ValueKind::Long)),
     row!(0x21, LoadLong, Bare, 1, Nothing -> Long, implied: 3, reads: Some(ValueKind::Long)),
     row!(0x22, Float, Bare, 1, Float -> Float, is_float: true),
-    row!(0x23, Float, Bare, 1, Float -> Float, is_float: true),
-    row!(0x24, Float, Bare, 1, Float -> Float, is_float: true),
-    row!(0x25, Float, Bare, 1, Float -> Float, is_float: true),
+    row!(0x23, Float, Bare, 1, Float -> Float, implied: 1, is_float: true),
+    row!(0x24, Float, Bare, 1, Float -> Float, implied: 2, is_float: true),
+    row!(0x25, Float, Bare, 1, Float -> Float, implied: 3, is_float: true),
     row!(0x26, Float, Bare, 1, Float -> Float, is_float: true),
-    row!(0x27, Float, Bare, 1, Float -> Float, is_float: true),
-    row!(0x28, Float, Bare, 1, Float -> Float, is_float: true),
-    row!(0x29, Float, Bare, 1, Float -> Float, is_float: true),
+    row!(0x27, Float, Bare, 1, Float -> Float, implied: 1, is_float: true),
+    row!(0x28, Float, Bare, 1, Float -> Float, implied: 2, is_float: true),
+    row!(0x29, Float, Bare, 1, Float -> Float, implied: 3, is_float: true),
     row!(0x2a, LoadReference, Bare, 1, Nothing -> Reference, reads: Some(ValueKind::Reference)),
     row!(0x2b, LoadReference, Bare, 1, Nothing -> Reference, implied: 1, reads: Some(ValueKind::Reference)),
     row!(0x2c, LoadReference, Bare, 1, Nothing -> Reference, implied: 2, reads: Some(ValueKind::Reference)),
     row!(0x2d, LoadReference, Bare, 1, Nothing -> Reference, implied: 3, reads: Some(ValueKind::Reference)),
     row!(0x2e, LoadIntElement, Bare, 1, ReferenceInt -> Int, throws: Throws::ArrayAccess),
     row!(0x2f, LoadLongElement, Bare, 1, ReferenceInt -> Long, throws: Throws::ArrayAccess),
-    row!(0x30, Float, Bare, 1, Float -> Float, is_float: true),
-    row!(0x31, Float, Bare, 1, Float -> Float, is_float: true),
+    row!(0x30, Float, Bare, 1, Float -> Float, throws: Throws::ArrayAccess, is_float: true),
+    row!(0x31, Float, Bare, 1, Float -> Float, throws: Throws::ArrayAccess, is_float: true),
     row!(0x32, LoadReferenceElement, Bare, 1, ReferenceInt -> Reference, throws: Throws::ArrayAccess),
     row!(0x33, LoadByteElement, Bare, 1, ReferenceInt -> Int, throws: Throws::ArrayAccess),
     row!(0x34, LoadCharElement, Bare, 1, ReferenceInt -> Int, throws: Throws::ArrayAccess),
@@ -112,21 +113,21 @@ pub const OPCODES: [Option<OpRow>; 201] = [
     row!(0x41, StoreLong, Bare, 1, Long -> Nothing, implied: 2, writes: Some(ValueKind::Long)),
     row!(0x42, StoreLong, Bare, 1, Long -> Nothing, implied: 3, writes: Some(ValueKind::Long)),
     row!(0x43, Float, Bare, 1, Float -> Float, is_float: true),
-    row!(0x44, Float, Bare, 1, Float -> Float, is_float: true),
-    row!(0x45, Float, Bare, 1, Float -> Float, is_float: true),
-    row!(0x46, Float, Bare, 1, Float -> Float, is_float: true),
+    row!(0x44, Float, Bare, 1, Float -> Float, implied: 1, is_float: true),
+    row!(0x45, Float, Bare, 1, Float -> Float, implied: 2, is_float: true),
+    row!(0x46, Float, Bare, 1, Float -> Float, implied: 3, is_float: true),
     row!(0x47, Float, Bare, 1, Float -> Float, is_float: true),
-    row!(0x48, Float, Bare, 1, Float -> Float, is_float: true),
-    row!(0x49, Float, Bare, 1, Float -> Float, is_float: true),
-    row!(0x4a, Float, Bare, 1, Float -> Float, is_float: true),
+    row!(0x48, Float, Bare, 1, Float -> Float, implied: 1, is_float: true),
+    row!(0x49, Float, Bare, 1, Float -> Float, implied: 2, is_float: true),
+    row!(0x4a, Float, Bare, 1, Float -> Float, implied: 3, is_float: true),
     row!(0x4b, StoreReference, Bare, 1, Reference -> Nothing, writes: Some(ValueKind::Reference)),
     row!(0x4c, StoreReference, Bare, 1, Reference -> Nothing, implied: 1, writes: Some(ValueKind::Reference)),
     row!(0x4d, StoreReference, Bare, 1, Reference -> Nothing, implied: 2, writes: Some(ValueKind::Reference)),
     row!(0x4e, StoreReference, Bare, 1, Reference -> Nothing, implied: 3, writes: Some(ValueKind::Reference)),
     row!(0x4f, StoreIntElement, Bare, 1, ReferenceIntInt -> Nothing, throws: Throws::ArrayAccess),
     row!(0x50, StoreLongElement, Bare, 1, ReferenceIntLong -> Nothing, throws: Throws::ArrayAccess),
-    row!(0x51, Float, Bare, 1, Float -> Float, is_float: true),
-    row!(0x52, Float, Bare, 1, Float -> Float, is_float: true),
+    row!(0x51, Float, Bare, 1, Float -> Float, throws: Throws::ArrayAccess, is_float: true),
+    row!(0x52, Float, Bare, 1, Float -> Float, throws: Throws::ArrayAccess, is_float: true),
     row!(0x53, StoreReferenceElement, Bare, 1, ReferenceIntReference -> Nothing, throws: Throws::ArrayStore),
     row!(0x54, StoreByteElement, Bare, 1, ReferenceIntInt -> Nothing, throws: Throws::ArrayAccess),
     row!(0x55, StoreCharElement, Bare, 1, ReferenceIntInt -> Nothing, throws: Throws::ArrayAccess),
@@ -218,8 +219,8 @@ pub const OPCODES: [Option<OpRow>; 201] = [
     row!(0xab, LookupSwitch, LookupSwitch, 0, Int -> Nothing, flow: Flow::Switch),
     row!(0xac, ReturnInt, Bare, 1, Int -> Nothing, flow: Flow::Return),
     row!(0xad, ReturnLong, Bare, 1, Long -> Nothing, flow: Flow::Return),
-    row!(0xae, Float, Bare, 1, Float -> Float, is_float: true),
-    row!(0xaf, Float, Bare, 1, Float -> Float, is_float: true),
+    row!(0xae, Float, Bare, 1, Float -> Float, flow: Flow::Return, is_float: true),
+    row!(0xaf, Float, Bare, 1, Float -> Float, flow: Flow::Return, is_float: true),
     row!(0xb0, ReturnReference, Bare, 1, Reference -> Nothing, flow: Flow::Return),
     row!(0xb1, Return, Bare, 1, Nothing -> Nothing, flow: Flow::Return),
     row!(0xb2, GetStatic, Constant, 3, Nothing -> ByConstant, constant: ConstantUse::Field, throws: Throws::Anything, initialises: true),
@@ -267,5 +268,12 @@ fn row_in(rows: &[Option<OpRow>], op: u8) -> Option<OpRow>
 /// Each row stands at its own opcode, so no opcode has two.
 pub fn opcodes_stand_once()
     ensures { IsTrue (stands_from 0 OPCODES) }
+{
+}
+
+/// Length, effects on locals and operand stack, constant and control flow of each row agree with its
+/// operand form.
+pub fn opcodes_agree_with_their_forms()
+    ensures { IsTrue (every agrees OPCODES) }
 {
 }

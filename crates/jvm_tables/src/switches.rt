@@ -8,7 +8,7 @@ use crate::instruction::OpRow;
 use crate::reading::word_at;
 
 // The bytes between the opcode of a switch and its default.
-fn padding(pc: u32) -> usize
+pub(crate) fn padding(pc: u32) -> usize
     ensures { result ≡ padding pc }
 {
     3 - (pc % 4) as usize
@@ -64,7 +64,7 @@ pub(crate) fn lookup_switch(pc: u32, row: &OpRow, bytes: &[u8]) -> Result<Instr,
 
 // The word at a place inside the bytes.
 #[tactic(auto, unfolding(crate::specs::Switches::word))]
-fn word(bytes: &[u8], at: usize) -> i32
+pub(crate) fn word(bytes: &[u8], at: usize) -> i32
     requires { at + 4 ≤ length bytes.now }
     ensures { result ≡ word bytes.now at }
 {
