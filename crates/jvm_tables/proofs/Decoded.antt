@@ -26,6 +26,7 @@ pub record Narrow (pc : ℕ) (row : OpRow) (a : List ℕ) (i : Instr) : Type 0 w
   pub op : i.op ≡ row.opcode
   pub positive : 0 < i.length
   pub within : i.length ≤ length a + 1
+  pub size : (i.length ≡ row.length) ⊎ (row.length ≡ 0)
 
 -- a whole tableswitch
 pub record Tabled (pc : ℕ) (row : OpRow) (a : List ℕ) (i : Instr) : Type 0 where
@@ -52,6 +53,7 @@ sure_table pc row a =
 -- a whole lookupswitch
 pub record Looked (pc : ℕ) (row : OpRow) (a : List ℕ) (i : Instr) : Type 0 where
   pub lookup : IsLookup pc a
+  pub counted : int_lt (word a (padding pc + 4)) (pos 0) ≡ false
   pub same : i ≡ switch_instr pc row (1 + lookup_size pc (unsigned_abs (word a (padding pc + 4)))) (word a (padding pc))
 
 pub sure_lookup : (pc : ℕ) (row : OpRow) (a : List ℕ) → Sure (lookup_switch pc row a) (Looked pc row a)
@@ -69,12 +71,13 @@ sure_lookup pc row a =
                   whole = rw n.1 (not_below (length a) (lookup_size pc (unsigned_abs count)) whole);
                   rising = rw n.1 rising
                 };
+                counted = rw n.1 ordered;
                 same = rw (d.1, n.1) refl
               }))
             (λ f. sure_err BadOperand _)))))
 
 plain_is : (pc : ℕ) (row : OpRow) (a : List ℕ) (first second : ℤ) (n : ℕ) → row.length ≡ 1 + n → n ≤ length a → Narrow pc row a (plain pc row first second)
-plain_is pc row a first second n e h = record { place = refl; narrow = refl; op = refl; positive = omega arith; within = omega arith }
+plain_is pc row a first second n e h = record { place = refl; narrow = refl; op = refl; positive = omega arith; within = omega arith; size = inl refl }
 
 one_byte : (pc : ℕ) (row : OpRow) (a : List ℕ) (first : ℕ → ℤ) → row.length ≡ 2 → Sure (byte_at a 0 >>= λ n. Ok (plain pc row (first n) (pos 0))) (Narrow pc row a)
 one_byte pc row a first e =
@@ -118,17 +121,17 @@ narrow_dimensions pc row a e =
       sure_bind (byte_at a 2) _ _ _ (sure_byte a 2) (λ count k.
         sure_if (eqb count 0) (Err BadOperand) _ _ (λ t. sure_err BadOperand _) (λ f. sure_ok _ _ (plain_is pc row a _ _ 3 (omega arith) (omega (arith, k.0))))))
 
-narrow_table : (pc : ℕ) (row : OpRow) (a : List ℕ) → Sure (table_switch pc row a) (Narrow pc row a)
-narrow_table pc row a i e =
+narrow_table : (pc : ℕ) (row : OpRow) (a : List ℕ) → row.length ≡ 0 → Sure (table_switch pc row a) (Narrow pc row a)
+narrow_table pc row a z i e =
     let t : Tabled pc row a i = sure_table pc row a i e in
     let whole = t.table.whole in
-    rw t.same (record { place = refl; narrow = refl; op = refl; positive = omega arith; within = omega (arith, whole) })
+    rw t.same (record { place = refl; narrow = refl; op = refl; positive = omega arith; within = omega (arith, whole); size = inr z })
 
-narrow_lookup : (pc : ℕ) (row : OpRow) (a : List ℕ) → Sure (lookup_switch pc row a) (Narrow pc row a)
-narrow_lookup pc row a i e =
+narrow_lookup : (pc : ℕ) (row : OpRow) (a : List ℕ) → row.length ≡ 0 → Sure (lookup_switch pc row a) (Narrow pc row a)
+narrow_lookup pc row a z i e =
     let t : Looked pc row a i = sure_lookup pc row a i e in
     let whole = t.lookup.whole in
-    rw t.same (record { place = refl; narrow = refl; op = refl; positive = omega arith; within = omega (arith, whole) })
+    rw t.same (record { place = refl; narrow = refl; op = refl; positive = omega arith; within = omega (arith, whole); size = inr z })
 
 pub narrow_form : (form : Form) (pc : ℕ) (row : OpRow) (a : List ℕ) → row.length ≡ length_of form → form ≢ forms.Wide → Sure (by_form form pc row a) (Narrow pc row a)
 narrow_form forms.Bare pc row a e n = sure_ok _ _ (plain_is pc row a _ _ 0 (omega arith) (omega arith))
@@ -141,8 +144,8 @@ narrow_form forms.LocalIncrement pc row a e n = narrow_increment pc row a e
 narrow_form forms.Branch pc row a e n = two_bytes pc row a _ e
 narrow_form forms.WideBranch pc row a e n =
     sure_bind (word_at a 0) _ _ _ (sure_word a 0) (λ z h. sure_ok _ _ (plain_is pc row a z (pos 0) 4 (omega arith) (omega (arith, h.0))))
-narrow_form forms.TableSwitch pc row a e n = narrow_table pc row a
-narrow_form forms.LookupSwitch pc row a e n = narrow_lookup pc row a
+narrow_form forms.TableSwitch pc row a e n = narrow_table pc row a e
+narrow_form forms.LookupSwitch pc row a e n = narrow_lookup pc row a e
 narrow_form forms.InterfaceCall pc row a e n = narrow_interface pc row a e
 narrow_form forms.CallSite pc row a e n = narrow_site pc row a e
 narrow_form forms.ElementType pc row a e n = narrow_element pc row a e
@@ -217,7 +220,7 @@ pub record Decoded (pc : ℕ) (bytes : List ℕ) (i : Instr) : Type 0 where
   pub found : row_of byte ≡ Some row
   pub formed : by_form row.form pc row (drop 1 bytes) ≡ Ok i
 
-sure_known : (op : ℕ) (found : Option OpRow) → Sure (known op found) (λ row. found ≡ Some row)
+pub sure_known : (op : ℕ) (found : Option OpRow) → Sure (known op found) (λ row. found ≡ Some row)
 sure_known op None = sure_err (UnknownOp op) _
 sure_known op (Some row) = sure_if row.is_float (Err (FloatOp op)) (Ok row) _ (λ t. sure_err (FloatOp op) _) (λ f. sure_ok row _ refl)
 

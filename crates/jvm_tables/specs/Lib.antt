@@ -2,6 +2,7 @@ pub mod Agreement
 pub mod Callbacks
 pub mod Decoding
 pub mod Externals
+pub mod Laws
 pub mod Natives
 pub mod Opcodes
 pub mod Switches
