@@ -32,11 +32,15 @@ same_true : (a b : Bool) → a ≡ true → same a b ≡ true → b ≡ true
 same_true true b e h = h
 same_true false b e h = cc
 
-float_not_wide : (row : OpRow) → float_agrees row ≡ true → row.takes_wide ≡ true → names_local row.form ≡ true ⊎ increments row.form ≡ true
+never : false ≡ true → ⊥
+never e = cc
+
+float_not_wide : (row : OpRow) → float_agrees row ≡ true → row.takes_wide ≡ true → ⊥
 float_not_wide row h w =
     let front : (are_float row.takes && are_float row.gives && touches_none row.reads row.writes && not row.takes_wide) ≡ true = (both _ _ h).0 in
     let not_wide : not row.takes_wide ≡ true = (both _ _ front).1 in
-    absurd (let no : not true ≡ true = (rw w at not_wide) in cc)
+    let not_true : not true ≡ not row.takes_wide = ap not (sym w) in
+    never (not_true ∙ not_wide)
 
 either : (a b : Bool) → (a || b) ≡ true → a ≡ true ⊎ b ≡ true
 either true b h = inl refl
@@ -50,8 +54,17 @@ plain_wide row h w =
 wide_agrees : (row : OpRow) → agrees row ≡ true → row.takes_wide ≡ true → names_local row.form ≡ true ⊎ increments row.form ≡ true
 wide_agrees row h w =
     elim row.is_float as (λ v. cond v (float_agrees row) (locals_agree row && stack_agrees row && flow_agrees row && same row.takes_wide (names_local row.form || increments row.form) && not (are_float row.takes) && not (are_float row.gives)) ≡ true → names_local row.form ≡ true ⊎ increments row.form ≡ true)
-    [ true ↦ λ e. float_not_wide row e w | false ↦ λ e. plain_wide row e w ] (both _ _ h).1
+    [ true ↦ λ e. absurd (float_not_wide row e w) | false ↦ λ e. plain_wide row e w ] (both _ _ h).1
 
 -- `wide` goes before what has a local alone
 pub wide_has_local : (op : ℕ) (row : OpRow) → row_of op ≡ Some row → row.takes_wide ≡ true → names_local row.form ≡ true ⊎ increments row.form ≡ true
 wide_has_local op row h w = wide_agrees row (row_agrees op row h) w
+
+plain_if_wide : (row : OpRow) → agrees row ≡ true → row.takes_wide ≡ true → row.is_float ≡ false
+plain_if_wide row h w =
+    elim row.is_float as (λ v. cond v (float_agrees row) (locals_agree row && stack_agrees row && flow_agrees row && same row.takes_wide (names_local row.form || increments row.form) && not (are_float row.takes) && not (are_float row.gives)) ≡ true → v ≡ false)
+    [ true ↦ λ e. absurd (float_not_wide row e w) | false ↦ λ e. refl ] (both _ _ h).1
+
+-- and before no float opcode
+pub wide_is_plain : (op : ℕ) (row : OpRow) → row_of op ≡ Some row → row.takes_wide ≡ true → row.is_float ≡ false
+wide_is_plain op row h w = plain_if_wide row (row_agrees op row h) w

@@ -4,10 +4,10 @@ use Rattle.std.proofs.lemmas.Int.{ints, by_lt_z}
 use Rattle.std.proofs.lemmas.Bool.Decides.{Decides-int_eq}
 use Rattle.jvm_tables.specs.Switches.{word, chosen, table_pairs, lookup_pairs}
 
-equal : (x y : ℤ) → x ≡ y → int_eq x y ≡ true
+pub equal : (x y : ℤ) → x ≡ y → int_eq x y ≡ true
 equal x y e = (Decides-int_eq x y).1 e
 
-differ : (x y : ℤ) → x ≢ y → int_eq x y ≡ false
+pub differ : (x y : ℤ) → x ≢ y → int_eq x y ≡ false
 differ x y n = elim (int_eq x y) as (λ v. int_eq x y ≡ v → v ≡ false) [ true ↦ λ e. absurd (n ((Decides-int_eq x y).0 e)) | false ↦ λ e. refl ] refl
 
 table_hit : (default : ℤ) (bytes : List ℕ) (i n at : ℕ) (low : ℤ) → i < n → chosen default (low +ℤ pos i) (table_pairs n low at bytes) ≡ word bytes (at + 4 * i)

@@ -1,6 +1,7 @@
 -- What is known of an instruction that was decoded.
-use Rattle.std.proofs.Common.{◌≡◌, ◌≢◌, ℕ, suc, zero, ◌+◌, ◌-◌, ◌*◌, ◌<◌, ◌≤◌, List, [], ◌∷◌, Bool, true, false, not, ◌&&◌, ◌||◌, cond, Option, Some, None, Result, Ok, Err, refl, sym, ◌∙◌, ap, subst, arith, length, get_or, drop, nat_lt, nat_le, eqb, ℤ, pos, int_lt, unsigned_abs, ◌-ℤ◌, ◌⊎◌, inl, inr}
+use Rattle.std.proofs.Common.{◌≡◌, ◌≢◌, ℕ, suc, zero, ◌+◌, ◌-◌, ◌*◌, ◌<◌, ◌≤◌, List, [], ◌∷◌, Bool, true, false, not, ◌&&◌, ◌||◌, cond, Option, Some, None, Result, Ok, Err, refl, sym, ◌∙◌, ap, subst, arith, length, get_or, drop, nat_lt, nat_le, eqb, ℤ, pos, int_lt, unsigned_abs, ◌-ℤ◌, ◌⊎◌, inl, inr, IsSomeAnd}
 use Rattle.std.proofs.lemmas.Bool.{ltb-true, eqb-true}
+use Rattle.std.proofs.lemmas.Grind.{get_or_after_one}
 use Rattle.std.proofs.lemmas.List.{length-drop}
 use Rattle.jvm_tables.specs.declared.code.CodeFault.{CodeFault}
 use Rattle.jvm_tables.specs.declared.code.CodeFault.TheVariants.{BadOperand, CutShort, UnknownOp, FloatOp}
@@ -13,7 +14,7 @@ use Rattle.jvm_tables.specs.Decoding.{plain, by_form, interface_call, call_site,
 use Rattle.jvm_tables.specs.Opcodes.{find_row, row_of, every}
 use Rattle.jvm_tables.specs.Switches.{◌>>=◌, byte_at, short_at, word, word_at, padding, keys_rise, lookup_pairs, table_size, lookup_size, table_switch, lookup_switch, lookup_switch_pairs, switch_instr, IsTable, IsLookup}
 use Rattle.jvm_tables.specs.Switching.{form_of}
-use Rattle.jvm_tables.proofs.Agreed.{opcode_of, length_of_row, wide_has_local}
+use Rattle.jvm_tables.proofs.Agreed.{opcode_of, length_of_row, wide_has_local, wide_is_plain}
 use Rattle.jvm_tables.proofs.Readings.{Sure, sure_ok, sure_err, sure_bind, sure_if, sure_byte, sure_short, sure_word}
 
 pub not_below : (a b : ℕ) → nat_lt a b ≡ false → b ≤ a
@@ -218,18 +219,19 @@ pub record Decoded (pc : ℕ) (bytes : List ℕ) (i : Instr) : Type 0 where
   pub some : 0 < length bytes
   pub first : get_or bytes 0 0 ≡ byte
   pub found : row_of byte ≡ Some row
+  pub plain : row.is_float ≡ false
   pub formed : by_form row.form pc row (drop 1 bytes) ≡ Ok i
 
-pub sure_known : (op : ℕ) (found : Option OpRow) → Sure (known op found) (λ row. found ≡ Some row)
+pub sure_known : (op : ℕ) (found : Option OpRow) → Sure (known op found) (λ row. (found ≡ Some row) × (row.is_float ≡ false))
 sure_known op None = sure_err (UnknownOp op) _
-sure_known op (Some row) = sure_if row.is_float (Err (FloatOp op)) (Ok row) _ (λ t. sure_err (FloatOp op) _) (λ f. sure_ok row _ refl)
+sure_known op (Some row) = sure_if row.is_float (Err (FloatOp op)) (Ok row) _ (λ t. sure_err (FloatOp op) _) (λ f. sure_ok row _ (refl, f))
 
 pub decoded : (pc : ℕ) (bytes : List ℕ) → Sure (decoding pc bytes) (Decoded pc bytes)
 unfolding decoding
 decoded pc bytes =
     sure_bind (byte_at bytes 0) _ _ _ (sure_byte bytes 0) (λ op h.
       sure_bind (known op (row_of op)) _ _ _ (sure_known op (row_of op)) (λ row f. λ i e.
-        record { byte = op; row = row; some = h.0; first = h.1; found = f; formed = e }))
+        record { byte = op; row = row; some = h.0; first = h.1; found = f.0; plain = f.1; formed = e }))
 
 wide_or_not : (form : Form) → (form ≡ forms.Wide) ⊎ (form ≢ forms.Wide)
 wide_or_not forms.Wide = inl refl
@@ -292,3 +294,16 @@ lookup_there pc bytes i h e =
 -- where an instruction is decoded, there is a byte
 pub byte_there : (pc : ℕ) (bytes : List ℕ) (i : Instr) → decoding pc bytes ≡ Ok i → 0 < length bytes
 byte_there pc bytes i h = (decoded pc bytes i h).some
+
+-- An instruction's opcode stands in its place and has a row, which is no float use.
+pub its_row : (pc : ℕ) (bytes : List ℕ) (i : Instr) → decoding pc bytes ≡ Ok i → (get_or bytes (cond i.wide 1 0) 0 ≡ i.op) × IsSomeAnd (row_of i.op) (λ row. row.is_float ≡ false)
+its_row pc bytes i e =
+    let d : Decoded pc bytes i = decoded pc bytes i e in
+    elim (wide_or_narrow pc bytes i d)
+    [ inl w ↦
+        let second : get_or bytes 1 0 ≡ i.op = sym (get_or_after_one bytes 0 0) ∙ w.1.op in
+        let plain : w.1.row.is_float ≡ false = wide_is_plain i.op w.1.row w.1.found w.1.takes in
+        (ap (λ b. get_or bytes (cond b 1 0) 0) w.1.wide ∙ second, rw w.1.found plain)
+    | inr n ↦
+        let own : i.op ≡ d.byte = n.1.op ∙ opcode_of d.byte d.row d.found in
+        (ap (λ b. get_or bytes (cond b 1 0) 0) n.1.narrow ∙ d.first ∙ sym own, rw (own, d.found) d.plain) ]

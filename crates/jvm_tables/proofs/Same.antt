@@ -206,7 +206,7 @@ decoding_same pc a b i e h p =
     let first = gave (byte_at a 0) _ i e in
     let second = gave (known first.0 (row_of first.0)) _ i first.2 in
     let byte : byte_at b 0 ≡ Ok first.0 = keeps_byte i.length a b 0 p h first.0 first.1 in
-    let found : row_of first.0 ≡ Some second.0 = sure_known first.0 (row_of first.0) second.0 second.1 in
+    let found : row_of first.0 ≡ Some second.0 = (sure_known first.0 (row_of first.0) second.0 second.1).0 in
     rw (byte, second.1)
     (form_same second.0.form pc second.0 (drop 1 a) (drop 1 b) i (length_of_row first.0 second.0 found) second.2 (prefix_rest i.length a b p))
 
