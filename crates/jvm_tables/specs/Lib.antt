@@ -2,8 +2,12 @@ pub mod Agreement
 pub mod Callbacks
 pub mod Decoding
 pub mod Externals
+pub mod Hierarchy
+pub mod Kinds
 pub mod Laws
 pub mod Natives
+pub mod Once
 pub mod Opcodes
 pub mod Switches
 pub mod Switching
+pub mod Thrown

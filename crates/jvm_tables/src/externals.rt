@@ -2,6 +2,7 @@
 
 ghost use Rattle.std.specs.Prelude.{◌≡◌, ◌<◌, ◌^◌, IsTrue, length, option_map};
 ghost use Rattle.jvm_tables.specs.Externals.{External, external_from, external_of, externals, all_stated, stated, said, method_said, method_named, names_rise};
+ghost use Rattle.jvm_tables.specs.Hierarchy.{all_agree, all_end};
 
 /// The classes that have natives together.
 #[derive(Clone, Copy, Drop)]
@@ -166,5 +167,20 @@ fn method_row(class: &'static str, method: Option<(&'static str, &'static str)>)
 #[tactic(auto, unfolding(crate::specs::Externals::externals))]
 pub fn external_names_rise()
     ensures { IsTrue (names_rise externals) }
+{
+}
+
+/// The rows agree with one another: super classes and interfaces are classes and interfaces of the
+/// table, and flags and families follow from them.
+#[tactic(auto, unfolding(crate::specs::Externals::externals))]
+pub fn externals_agree()
+    ensures { IsTrue (all_agree externals) }
+{
+}
+
+/// No external class is above itself.
+#[tactic(auto, unfolding(crate::specs::Externals::externals))]
+pub fn external_supers_end()
+    ensures { IsTrue (all_end externals) }
 {
 }

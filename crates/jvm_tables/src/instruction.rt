@@ -1,5 +1,7 @@
 //! The facts that the table of instructions states of one opcode.
 
+ghost use Rattle.std.specs.Prelude.{◌≡◌, map, option_map};
+
 /// The kind of a value in a local or on the operand stack. A long fills two slots.
 #[derive(Clone, Copy, Debug, PartialEq, Eq, Drop)]
 pub enum ValueKind {
@@ -72,6 +74,38 @@ pub enum Operands {
     Float,
 }
 
+impl Operands {
+    ghost use Rattle.jvm_tables.specs.Kinds.{kinds_of};
+
+    /// The kinds of the values, the last on top. `None` where the row alone does not tell them: for
+    /// slots of any kind, and for what the constant or the dimensions say.
+    pub fn kinds(self) -> Option<&'static [ValueKind]>
+        ensures { option_map (λ kinds. kinds.now) result ≡ kinds_of self }
+    {
+        match self {
+            Operands::Nothing => Some(&[]),
+            Operands::Int => Some(&[ValueKind::Int]),
+            Operands::Long => Some(&[ValueKind::Long]),
+            Operands::Reference => Some(&[ValueKind::Reference]),
+            Operands::IntInt => Some(&[ValueKind::Int, ValueKind::Int]),
+            Operands::LongLong => Some(&[ValueKind::Long, ValueKind::Long]),
+            Operands::LongInt => Some(&[ValueKind::Long, ValueKind::Int]),
+            Operands::ReferenceInt => Some(&[ValueKind::Reference, ValueKind::Int]),
+            Operands::ReferenceIntInt => Some(&[ValueKind::Reference, ValueKind::Int, ValueKind::Int]),
+            Operands::ReferenceIntLong => Some(&[ValueKind::Reference, ValueKind::Int, ValueKind::Long]),
+            Operands::ReferenceIntReference => {
+                Some(&[ValueKind::Reference, ValueKind::Int, ValueKind::Reference])
+            }
+            Operands::ReferenceReference => Some(&[ValueKind::Reference, ValueKind::Reference]),
+            Operands::Slots(_)
+            | Operands::ByConstant
+            | Operands::ReferenceByConstant
+            | Operands::IntForEachDimension
+            | Operands::Float => None,
+        }
+    }
+}
+
 /// The constant that an instruction names, by the tags that it may have (JVMS 4.4).
 #[derive(Clone, Copy, Drop)]
 pub enum ConstantUse {
@@ -136,6 +170,51 @@ pub enum Throws {
     Field,
     /// Any throwable: it throws one, calls a method or initialises a class.
     Anything,
+}
+
+impl Throws {
+    ghost use Rattle.jvm_tables.specs.Thrown.{thrown};
+
+    /// The names of the classes that may be thrown; `None` where any throwable may.
+    pub fn classes(self) -> Option<&'static [&'static str]>
+        ensures { option_map (λ classes. map (λ class. class.now) classes.now) result ≡ thrown self }
+    {
+        match self {
+            Throws::Nothing => Some(&[]),
+            Throws::Division => Some(&["java/lang/ArithmeticException"]),
+            Throws::ArrayAccess => Some(&[
+                "java/lang/NullPointerException",
+                "java/lang/IncompatibleClassChangeError",
+                "java/lang/ArrayIndexOutOfBoundsException",
+            ]),
+            Throws::ArrayStore => Some(&[
+                "java/lang/NullPointerException",
+                "java/lang/IncompatibleClassChangeError",
+                "java/lang/ArrayIndexOutOfBoundsException",
+                "java/lang/ArrayStoreException",
+            ]),
+            Throws::ArrayLength => {
+                Some(&["java/lang/NullPointerException", "java/lang/IncompatibleClassChangeError"])
+            }
+            Throws::NewArray => Some(&["java/lang/NegativeArraySizeException"]),
+            Throws::NewReferenceArray => {
+                Some(&["java/lang/NoClassDefFoundError", "java/lang/NegativeArraySizeException"])
+            }
+            Throws::Constant => Some(&["java/lang/UnsupportedOperationException"]),
+            Throws::Cast => {
+                Some(&["java/lang/NoClassDefFoundError", "java/lang/ClassCastException"])
+            }
+            Throws::ClassTest => Some(&["java/lang/NoClassDefFoundError"]),
+            Throws::Monitor => Some(&["java/lang/NullPointerException"]),
+            Throws::Field => Some(&[
+                "java/lang/NoClassDefFoundError",
+                "java/lang/NoSuchFieldError",
+                "java/lang/IncompatibleClassChangeError",
+                "java/lang/NullPointerException",
+            ]),
+            Throws::Anything => None,
+        }
+    }
 }
 
 /// What an instruction does (JVMS 6.5). Opcodes that differ only in their operand form or in an

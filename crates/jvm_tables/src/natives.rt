@@ -4,6 +4,10 @@ ghost use Rattle.std.specs.Prelude.{◌≡◌, ◌<◌, ◌^◌, IsTrue, length,
 ghost use Rattle.jvm_tables.specs.Externals.{method_said, said as external_said, external_of};
 ghost use Rattle.jvm_tables.specs.Natives.{native_from, native_of, natives, all_stated, stated, said, is_native, stands_on, is_list, is_throwable};
 
+ghost use Rattle.jvm_tables.specs.declared.natives.Callback.{Callback};
+ghost use Rattle.jvm_tables.specs.Callbacks.{called_back};
+ghost use Rattle.jvm_tables.specs.Once.{all_apart, classes_known, can_be_called};
+
 use crate::externals::{ExternalMethod, ExternalRow, Family, external};
 
 /// The method that a native calls back, on an argument or an element.
@@ -233,8 +237,6 @@ fn native_at(at: u32, facts: &NativeFacts) -> NativeRow
 }
 
 impl Callback {
-    ghost use Rattle.jvm_tables.specs.Callbacks.{called_back};
-
     /// The method, by the class that declares it.
     pub fn method(self) -> ExternalMethod
         ensures { method_said result ≡ called_back self }
@@ -250,4 +252,24 @@ impl Callback {
         };
         ExternalMethod { class, name, descriptor }
     }
+}
+
+/// No class has two natives of one name and descriptor.
+#[tactic(auto, unfolding(crate::specs::Natives::natives, crate::specs::Externals::externals))]
+pub fn natives_occur_once()
+    ensures { IsTrue (all_apart natives) }
+{
+}
+
+/// The class of each native is in the table of external classes.
+#[tactic(auto, unfolding(crate::specs::Natives::natives, crate::specs::Externals::externals))]
+pub fn native_classes_are_external()
+    ensures { IsTrue (classes_known natives) }
+{
+}
+
+/// What natives call back is a native of objects, or the abstract method of an external interface.
+pub fn callbacks_can_be_called()
+    ensures { (callback : Callback) → IsTrue (can_be_called (called_back callback)) }
+{
 }

@@ -3,6 +3,7 @@
 ghost use Rattle.std.specs.Prelude.{◌≡◌, IsTrue};
 ghost use Rattle.jvm_tables.specs.Agreement.{agrees};
 ghost use Rattle.jvm_tables.specs.Opcodes.{row_of, find_row, stands_from, every};
+ghost use Rattle.jvm_tables.specs.Thrown.{thrown, are_throwables};
 
 use crate::instruction::{ConstantUse, Flow, Form, OpRow, Operands, Operation, Throws, ValueKind};
 
@@ -275,5 +276,12 @@ pub fn opcodes_stand_once()
 /// operand form.
 pub fn opcodes_agree_with_their_forms()
     ensures { IsTrue (every agrees OPCODES) }
+{
+}
+
+/// The classes that an instruction may throw are throwables of the table of external classes.
+#[tactic(auto, unfolding(crate::specs::Externals::externals))]
+pub fn thrown_classes_are_external()
+    ensures { IsTrue (every (λ row. are_throwables (thrown row.throws)) OPCODES) }
 {
 }
