@@ -1,8 +1,9 @@
 -- The offset that a switch has for a key.
-use Rattle.std.proofs.Common.{◌≡◌, ◌≢◌, ℕ, suc, zero, ◌+◌, ◌-◌, ◌*◌, ◌<◌, ◌≤◌, List, Bool, true, false, not, ◌&&◌, cond, refl, sym, ◌∙◌, ap, arith, ℤ, pos, ◌+ℤ◌, ◌-ℤ◌, ◌<ℤ◌, ◌≤ℤ◌, int_lt, int_eq, unsigned_abs}
+use Rattle.std.proofs.Common.{◌≡◌, ◌≢◌, ℕ, suc, zero, ◌+◌, ◌-◌, ◌*◌, ◌<◌, ◌≤◌, List, Bool, true, false, not, ◌&&◌, cond, refl, sym, ◌∙◌, ap, arith, ℤ, pos, ◌+ℤ◌, ◌-ℤ◌, ◌<ℤ◌, ◌≤ℤ◌, int_lt, int_eq, unsigned_abs, length, map, Some, option_map, slice_get}
 use Rattle.std.proofs.lemmas.Int.{ints, by_lt_z}
+use Rattle.std.proofs.lemmas.Option.{slice_get-map}
 use Rattle.std.proofs.lemmas.Bool.Decides.{Decides-int_eq}
-use Rattle.jvm_tables.specs.Switches.{word, chosen, table_pairs, lookup_pairs}
+use Rattle.jvm_tables.specs.Switches.{word, padding, chosen, target, table_pairs, lookup_pairs, table_switch_pairs, lookup_switch_pairs}
 
 pub equal : (x y : ℤ) → x ≡ y → int_eq x y ≡ true
 equal x y e = (Decides-int_eq x y).1 e
@@ -78,3 +79,55 @@ lookup_on default key bytes at count k all h e was =
 pub table_default : (default key answer : ℤ) (bytes : List ℕ) (at : ℕ) (low high : ℤ) → answer ≡ default → int_lt high low ≡ false → (not (int_lt key low) && not (int_lt high key)) ≡ false → answer ≡ chosen default key (table_pairs (unsigned_abs (high -ℤ low) + 1) low at bytes)
 table_default default key answer bytes at low high e bounds outside =
     e ∙ sym (table_chosen default key bytes at low high bounds ∙ ap (λ b. cond b (word bytes (at + 4 * unsigned_abs (key -ℤ low))) default) outside)
+
+table_length : (n at : ℕ) (low : ℤ) (bytes : List ℕ) → length (table_pairs n low at bytes) ≡ n
+table_length zero at low bytes = refl
+table_length (suc n) at low bytes = ap suc (table_length n (at + 4) (low +ℤ pos 1) bytes)
+
+-- the pair of a tableswitch at a place
+table_get : (n at k : ℕ) (low : ℤ) (bytes : List ℕ) → k < n → slice_get (table_pairs n low at bytes) k ≡ Some (low +ℤ pos k, word bytes (at + 4 * k))
+table_get zero at k low bytes h = absurd (omega arith)
+table_get (suc n) at zero low bytes h =
+    let key : low ≡ low +ℤ pos 0 = omega (arith, ints) in
+    let place : at ≡ at + 4 * 0 = omega arith in
+    ap (λ z. Some (z, word bytes at)) key ∙ ap (λ m. Some (low +ℤ pos 0, word bytes m)) place
+table_get (suc n) at (suc k) low bytes h =
+    let key : (low +ℤ pos 1) +ℤ pos k ≡ low +ℤ pos (suc k) = omega (arith, ints) in
+    let place : at + 4 + 4 * k ≡ at + 4 * suc k = omega arith in
+    table_get n (at + 4) k (low +ℤ pos 1) bytes (omega arith)
+    ∙ ap (λ z. Some (z, word bytes (at + 4 + 4 * k))) key ∙ ap (λ m. Some (low +ℤ pos (suc k), word bytes m)) place
+
+lookup_length : (n at : ℕ) (bytes : List ℕ) → length (lookup_pairs n at bytes) ≡ n
+lookup_length zero at bytes = refl
+lookup_length (suc n) at bytes = ap suc (lookup_length n (at + 8) bytes)
+
+-- the pair of a lookupswitch at a place
+lookup_get : (n at k : ℕ) (bytes : List ℕ) → k < n → slice_get (lookup_pairs n at bytes) k ≡ Some (word bytes (at + 8 * k), word bytes (at + 8 * k + 4))
+lookup_get zero at k bytes h = absurd (omega arith)
+lookup_get (suc n) at zero bytes h =
+    let place : at ≡ at + 8 * 0 = omega arith in
+    ap (λ m. Some (word bytes m, word bytes (m + 4))) place
+lookup_get (suc n) at (suc k) bytes h =
+    let place : at + 8 + 8 * k ≡ at + 8 * suc k = omega arith in
+    lookup_get n (at + 8) k bytes (omega arith) ∙ ap (λ m. Some (word bytes m, word bytes (m + 4))) place
+
+pub table_count : (pc : ℕ) (bytes : List ℕ) → length (table_switch_pairs pc bytes) ≡ unsigned_abs (word bytes (padding pc + 8) -ℤ word bytes (padding pc + 4)) + 1
+unfolding table_switch_pairs
+table_count pc bytes = table_length _ _ _ bytes
+
+pub lookup_count : (pc : ℕ) (bytes : List ℕ) → length (lookup_switch_pairs pc bytes) ≡ unsigned_abs (word bytes (padding pc + 4))
+unfolding lookup_switch_pairs
+lookup_count pc bytes = lookup_length _ _ bytes
+
+pub table_pair : (pc k : ℕ) (bytes : List ℕ) → k < length (table_switch_pairs pc bytes) → slice_get (table_switch_pairs pc bytes) k ≡ Some (word bytes (padding pc + 4) +ℤ pos k, word bytes (padding pc + 12 + 4 * k))
+unfolding table_switch_pairs
+table_pair pc k bytes h = table_get _ _ k _ bytes (omega (arith, table_count pc bytes))
+
+pub lookup_pair : (pc k : ℕ) (bytes : List ℕ) → k < length (lookup_switch_pairs pc bytes) → slice_get (lookup_switch_pairs pc bytes) k ≡ Some (word bytes (padding pc + 8 + 8 * k), word bytes (padding pc + 8 + 8 * k + 4))
+unfolding lookup_switch_pairs
+lookup_pair pc k bytes h = lookup_get _ _ k bytes (omega (arith, lookup_count pc bytes))
+
+-- the cases of a switch are its pairs
+pub case_at : (pc k : ℕ) (pairs : List (ℤ × ℤ)) (pair : ℤ × ℤ) → slice_get pairs k ≡ Some pair → slice_get (map (λ (p : ℤ × ℤ). let found : ℤ × ℕ = (p.0, target pc p.1) in found) pairs) k ≡ Some (pair.0, target pc pair.1)
+case_at pc k pairs pair h =
+    slice_get-map (λ (p : ℤ × ℤ). let found : ℤ × ℕ = (p.0, target pc p.1) in found) pairs k ∙ ap (option_map (λ (p : ℤ × ℤ). let found : ℤ × ℕ = (p.0, target pc p.1) in found)) h

@@ -1,6 +1,6 @@
 //! The table of external classes: the classes and interfaces that code may use and no build has.
 
-ghost use Rattle.std.specs.Prelude.{◌≡◌, ◌<◌, ◌^◌, IsTrue, length, option_map};
+ghost use Rattle.std.specs.Prelude.{◌≡◌, ◌<◌, ◌^◌, IsTrue, length, option_map, slice_get};
 ghost use Rattle.jvm_tables.specs.Externals.{External, external_from, external_of, externals, all_stated, stated, said, method_said, method_named, names_rise};
 ghost use Rattle.jvm_tables.specs.Hierarchy.{all_agree, all_end};
 
@@ -132,6 +132,21 @@ pub fn external(class: &[u8]) -> Option<ExternalRow>
     ensures { option_map said result ≡ external_of class.now }
 {
     find_external(&EXTERNALS, class)
+}
+
+/// The row at a place of the table.
+#[tactic(auto, unfolding(crate::specs::Externals::externals))]
+pub fn external_at(at: u32) -> Option<ExternalRow>
+    ensures { option_map said result ≡ option_map (λ row. (at, row)) (slice_get externals at) }
+{
+    external_among(&EXTERNALS, at)
+}
+
+fn external_among(rows: &[ExternalFacts], at: u32) -> Option<ExternalRow>
+    ensures { option_map said result ≡ option_map (λ row. (at, row)) (slice_get (all_stated rows.now) at) }
+{
+    let place = at as usize;
+    if place < rows.len() { Some(external_row(at, &rows[place])) } else { None }
 }
 
 fn find_external(rows: &[ExternalFacts], class: &[u8]) -> Option<ExternalRow>
