@@ -1,5 +1,5 @@
 -- An instruction is decoded alike from bytes that begin with its own.
-use Rattle.std.proofs.Common.{◌≡◌, ◌≢◌, ℕ, suc, zero, ◌+◌, ◌-◌, ◌*◌, ◌<◌, ◌≤◌, List, [], ◌∷◌, ◌++◌, Bool, true, false, not, ◌&&◌, cond, Option, Some, None, Result, Ok, Err, refl, sym, ◌∙◌, ap, arith, length, get_or, drop, take, nat_lt, nat_le, eqb, ℤ, pos, int_lt, unsigned_abs, ◌-ℤ◌, length-append, ◌⊎◌, inl, inr}
+use Rattle.std.proofs.Common.{◌≡◌, ◌≢◌, ℕ, suc, zero, ◌+◌, ◌-◌, ◌*◌, ◌<◌, ◌≤◌, List, [], ◌∷◌, ◌++◌, Bool, true, false, not, ◌&&◌, cond, Option, Some, None, Result, Ok, Err, refl, sym, ◌∙◌, ap, arith, length, get_or, drop, take, nat_lt, nat_le, eqb, ℤ, pos, int_lt, unsigned_abs, ◌-ℤ◌, length-append, ◌⊎◌, inl, inr, IfOk}
 use Rattle.std.proofs.lemmas.Bool.{le-ltb, lt-ltb}
 use Rattle.std.proofs.lemmas.List.{get_or-take, get_or_append_left, length-drop, length-take}
 use Rattle.jvm_tables.specs.declared.code.CodeFault.{CodeFault}
@@ -231,3 +231,17 @@ pub own_bytes : (pc : ℕ) (bytes more : List ℕ) (i : Instr) → decoding pc b
 own_bytes pc bytes more i e =
     let within = ends_within pc bytes i e in
     decoding_same pc bytes (take i.length bytes ++ more) i e within.1 (own_prefix i.length bytes more within.2)
+
+if_ok : {A : Type 0} (r : Result A CodeFault) (P : A → Type 0) → ((x : A) → r ≡ Ok x → P x) → IfOk r P
+if_ok (Ok x) P h = h x refl
+if_ok (Err fault) P h = tt
+
+-- what is known of the answer of decoding
+pub place_of : (pc : ℕ) (bytes : List ℕ) → IfOk (decoding pc bytes) (λ i. i.pc ≡ pc)
+place_of pc bytes = if_ok (decoding pc bytes) _ (λ i e. (ends_within pc bytes i e).0)
+
+pub length_of_it : (pc : ℕ) (bytes : List ℕ) → IfOk (decoding pc bytes) (λ i. 0 < i.length)
+length_of_it pc bytes = if_ok (decoding pc bytes) _ (λ i e. (ends_within pc bytes i e).1)
+
+pub end_of : (pc : ℕ) (code : List ℕ) → pc ≤ length code → IfOk (decoding pc (drop pc code)) (λ i. pc + i.length ≤ length code)
+end_of pc code h = if_ok (decoding pc (drop pc code)) _ (λ i e. let within = (ends_within pc (drop pc code) i e).2 in omega (arith, within, length-drop pc code))

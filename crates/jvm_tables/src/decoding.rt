@@ -1,6 +1,6 @@
 //! The instruction at a place of the code, by the row of its opcode.
 
-ghost use Rattle.std.specs.Prelude.{◌≡◌, ◌<◌, ◌≤◌, drop, length, pos};
+ghost use Rattle.std.specs.Prelude.{◌≡◌, ◌+◌, ◌<◌, ◌≤◌, IfOk, drop, length, pos};
 ghost use Rattle.jvm_tables.specs.Decoding.{plain, interface_call, call_site, element_type, dimensions, increment, wide_local, wide_increment, wide_form, widened, wide, by_form, known, decoding};
 ghost use Rattle.jvm_tables.specs.Opcodes.{row_of};
 
@@ -15,13 +15,27 @@ use crate::switches::{lookup_switch, table_switch};
 /// those are bad that stand in the place of a fixed 0 and differ, a code of an element type outside
 /// 4 to 11, 0 dimensions, an opcode behind `wide` that does not take it, a switch with its low bound
 /// above its high one, a negative number of pairs, or keys that do not rise.
-#[tactic(auto, unfolding(crate::specs::Decoding::decoding))]
+#[tactic(auto, using(crate::proofs::Same::place_of, crate::proofs::Same::length_of_it, crate::proofs::Same::end_of))]
 pub fn decode(code: &[u8], pc: u32) -> Result<Instr, CodeFault>
     requires within { pc < length code.now }
     requires small { length code.now ≤ 65535 }
-    ensures { result ≡ decoding pc (drop pc code.now) }
+    ensures exact { result ≡ decoding pc (drop pc code.now) }
+
+    // It stands at the place, has a length, and ends within the code.
+    ensures place { IfOk result (λ instr. instr.pc ≡ pc) }
+    ensures some { IfOk result (λ instr. 0 < instr.length) }
+    ensures end { IfOk result (λ instr. pc + instr.length ≤ length code.now) }
 {
     let (_, bytes) = code.split_at(pc as usize);
+    instruction(pc, bytes)
+}
+
+// The instruction at the front of the bytes.
+#[tactic(auto, unfolding(crate::specs::Decoding::decoding))]
+fn instruction(pc: u32, bytes: &[u8]) -> Result<Instr, CodeFault>
+    requires { length bytes.now ≤ 65535 }
+    ensures { result ≡ decoding pc bytes.now }
+{
     let op = byte_at(bytes, 0)?;
     let row = known(op)?;
     let (_, operands) = bytes.split_at(1);

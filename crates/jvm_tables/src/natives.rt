@@ -1,6 +1,6 @@
 //! The table of natives: the methods of external classes that the machine itself runs.
 
-ghost use Rattle.std.specs.Prelude.{◌≡◌, ◌<◌, ◌^◌, IsTrue, length, option_map};
+ghost use Rattle.std.specs.Prelude.{◌≡◌, ◌<◌, ◌^◌, IsTrue, length, option_map, slice_get};
 ghost use Rattle.jvm_tables.specs.Externals.{method_said, said as external_said, external_of};
 ghost use Rattle.jvm_tables.specs.Natives.{native_from, native_of, natives, all_stated, stated, said, is_native, stands_on, is_list, is_throwable};
 
@@ -186,13 +186,28 @@ pub fn native_row(class: &[u8], name: &[u8], descriptor: &[u8]) -> Option<Native
     find_native(&NATIVES, class, name, descriptor)
 }
 
+/// The row at a place of the table.
+#[tactic(auto, unfolding(crate::specs::Natives::natives))]
+pub fn native_at(at: u32) -> Option<NativeRow>
+    ensures { option_map said result ≡ option_map (λ row. (at, row)) (slice_get natives at) }
+{
+    native_among(&NATIVES, at)
+}
+
+fn native_among(rows: &[NativeFacts], at: u32) -> Option<NativeRow>
+    ensures { option_map said result ≡ option_map (λ row. (at, row)) (slice_get (all_stated rows.now) at) }
+{
+    let place = at as usize;
+    if place < rows.len() { Some(stated_row(at, &rows[place])) } else { None }
+}
+
 fn find_native(rows: &[NativeFacts], class: &[u8], name: &[u8], descriptor: &[u8]) -> Option<NativeRow>
     requires { length rows.now < 2 ^ 32 }
     ensures { option_map said result ≡ native_from 0 class.now name.now descriptor.now (all_stated rows.now) }
 {
     for (at, facts) in rows.iter().enumerate() {
         if is_native(facts, class, name, descriptor) {
-            return Some(native_at(at as u32, facts));
+            return Some(stated_row(at as u32, facts));
         }
     }
     None
@@ -229,7 +244,7 @@ fn is_throwable(row: Option<ExternalRow>) -> bool
     matches!(row, Some(ExternalRow { family: Family::Throwables, .. }))
 }
 
-fn native_at(at: u32, facts: &NativeFacts) -> NativeRow
+fn stated_row(at: u32, facts: &NativeFacts) -> NativeRow
     ensures { said result ≡ (at, stated facts.now) }
 {
     let (class, family, name, descriptor, is_static, calls_back) = *facts;

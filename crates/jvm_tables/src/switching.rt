@@ -3,6 +3,7 @@
 ghost use Rattle.std.specs.Prelude.{◌≡◌, ◌+◌, ◌-◌, ◌*◌, ◌<◌, ◌≤◌, ◌-ℤ◌, ◌+ℤ◌, ◌&&◌, Some, drop, length, false, not, pos, slice_get, int_lt, unsigned_abs};
 ghost use Rattle.std.specs.Ordering.{int_eq};
 ghost use Rattle.jvm_tables.specs.declared.instruction.Form.TheVariants.{TableSwitch, LookupSwitch};
+ghost use Rattle.jvm_tables.specs.Agreement.{is_switch};
 ghost use Rattle.jvm_tables.specs.Opcodes.{row_of};
 ghost use Rattle.jvm_tables.specs.Switches.{word, padding, IsTable, IsLookup, table_switch_pairs, lookup_switch_pairs, table_pairs, lookup_pairs, pairs_of, chosen, target};
 ghost use Rattle.jvm_tables.specs.Switching.{IsSwitchAt, form_of, pairs_at, cases_at, target_at};
@@ -11,6 +12,13 @@ use crate::code::Instr;
 use crate::instruction::Form;
 use crate::opcodes::op_row;
 use crate::switches::{padding, word};
+
+/// Whether a decoded instruction is a switch.
+pub fn is_switch(instr: &Instr) -> bool
+    ensures { result ≡ is_switch (form_of (row_of instr.now.op)) }
+{
+    matches!(form(instr.op), Form::TableSwitch | Form::LookupSwitch)
+}
 
 /// Where a switch goes at a key: its pc and the offset of the key, or the default offset where no
 /// pair has the key, modulo 2^32.
