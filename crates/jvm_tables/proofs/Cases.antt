@@ -23,7 +23,7 @@ table_hit default bytes (suc i) (suc n) at low h =
     let place : at + 4 + 4 * i ≡ at + 4 * suc i = omega arith in
     rw (differ low (low +ℤ pos (suc i)) later)
     (ap (λ k. chosen default k (table_pairs n (low +ℤ pos 1) (at + 4) bytes)) key
-      ∙ table_hit default bytes i n (at + 4) (low +ℤ pos 1) (omega arith) ∙ ap (word bytes) place)
+    ∙ table_hit default bytes i n (at + 4) (low +ℤ pos 1) (omega arith) ∙ ap (word bytes) place)
 
 table_below : (default key : ℤ) (bytes : List ℕ) (n at : ℕ) (low : ℤ) → key <ℤ low → chosen default key (table_pairs n low at bytes) ≡ default
 table_below default key bytes zero at low h = refl
@@ -43,16 +43,16 @@ table_chosen default key bytes at low high h =
     by_lt_z key low
     (λ below. let test : int_lt key low ≡ true = grind (arith, ints) in rw test (table_below default key bytes (unsigned_abs (high -ℤ low) + 1) at low below))
     (λ from_low.
-      let test : int_lt key low ≡ false = grind (arith, ints) in
-      rw test
-      (by_lt_z high key
-        (λ above. let over : int_lt high key ≡ true = grind (arith, ints) in let past : (low +ℤ pos (unsigned_abs (high -ℤ low) + 1)) ≤ℤ key = omega (arith, ints) in rw over (table_above default key bytes (unsigned_abs (high -ℤ low) + 1) at low past))
-        (λ to_high.
-          let over : int_lt high key ≡ false = grind (arith, ints) in
-          let same : key ≡ low +ℤ pos (unsigned_abs (key -ℤ low)) = omega (arith, ints) in
-          rw over
-          (ap (λ k. chosen default k (table_pairs (unsigned_abs (high -ℤ low) + 1) low at bytes)) same
-            ∙ table_hit default bytes (unsigned_abs (key -ℤ low)) (unsigned_abs (high -ℤ low) + 1) at low (omega (arith, ints))))))
+    let test : int_lt key low ≡ false = grind (arith, ints) in
+    rw test
+    (by_lt_z high key
+    (λ above. let over : int_lt high key ≡ true = grind (arith, ints) in let past : (low +ℤ pos (unsigned_abs (high -ℤ low) + 1)) ≤ℤ key = omega (arith, ints) in rw over (table_above default key bytes (unsigned_abs (high -ℤ low) + 1) at low past))
+    (λ to_high.
+    let over : int_lt high key ≡ false = grind (arith, ints) in
+    let same : key ≡ low +ℤ pos (unsigned_abs (key -ℤ low)) = omega (arith, ints) in
+    rw over
+    (ap (λ k. chosen default k (table_pairs (unsigned_abs (high -ℤ low) + 1) low at bytes)) same
+    ∙ table_hit default bytes (unsigned_abs (key -ℤ low)) (unsigned_abs (high -ℤ low) + 1) at low (omega (arith, ints))))))
 
 -- the pair at k decides, else those after it
 lookup_first : (default key : ℤ) (bytes : List ℕ) (at n : ℕ) → 0 < n → chosen default key (lookup_pairs n at bytes) ≡ cond (int_eq (word bytes at) key) (word bytes (at + 4)) (chosen default key (lookup_pairs (n - 1) (at + 8) bytes))

@@ -38,18 +38,18 @@ pub sure_table : (pc : ℕ) (row : OpRow) (a : List ℕ) → Sure (table_switch 
 unfolding table_switch
 sure_table pc row a =
     sure_bind (word_at a (padding pc)) _ _ _ (sure_word a (padding pc)) (λ default d.
-      sure_bind (word_at a (padding pc + 4)) _ _ _ (sure_word a (padding pc + 4)) (λ low l.
-        sure_bind (word_at a (padding pc + 8)) _ _ _ (sure_word a (padding pc + 8)) (λ high h.
-          sure_if (int_lt high low) (Err BadOperand) _ _ (λ t. sure_err BadOperand _) (λ ordered.
-            sure_if (nat_lt (length a) (table_size pc low high)) (Err CutShort) _ _ (λ t. sure_err CutShort _) (λ whole.
-              sure_ok _ _ (record {
-                table = record {
-                  header = omega (arith, h.0);
-                  bounds = rw (l.1, h.1) ordered;
-                  whole = rw (l.1, h.1) (not_below (length a) (table_size pc low high) whole)
-                };
-                same = rw (d.1, l.1, h.1) refl
-              }))))))
+    sure_bind (word_at a (padding pc + 4)) _ _ _ (sure_word a (padding pc + 4)) (λ low l.
+    sure_bind (word_at a (padding pc + 8)) _ _ _ (sure_word a (padding pc + 8)) (λ high h.
+    sure_if (int_lt high low) (Err BadOperand) _ _ (λ t. sure_err BadOperand _) (λ ordered.
+    sure_if (nat_lt (length a) (table_size pc low high)) (Err CutShort) _ _ (λ t. sure_err CutShort _) (λ whole.
+    sure_ok _ _ (record {
+      table = record {
+        header = omega (arith, h.0);
+        bounds = rw (l.1, h.1) ordered;
+        whole = rw (l.1, h.1) (not_below (length a) (table_size pc low high) whole);
+      };
+      same = rw (d.1, l.1, h.1) refl;
+    }))))))
 
 -- a whole lookupswitch
 pub record Looked (pc : ℕ) (row : OpRow) (a : List ℕ) (i : Instr) : Type 0 where
@@ -61,21 +61,21 @@ pub sure_lookup : (pc : ℕ) (row : OpRow) (a : List ℕ) → Sure (lookup_switc
 unfolding lookup_switch lookup_switch_pairs
 sure_lookup pc row a =
     sure_bind (word_at a (padding pc)) _ _ _ (sure_word a (padding pc)) (λ default d.
-      sure_bind (word_at a (padding pc + 4)) _ _ _ (sure_word a (padding pc + 4)) (λ count n.
-        sure_if (int_lt count (pos 0)) (Err BadOperand) _ _ (λ t. sure_err BadOperand _) (λ ordered.
-          sure_if (nat_lt (length a) (lookup_size pc (unsigned_abs count))) (Err CutShort) _ _ (λ t. sure_err CutShort _) (λ whole.
-            sure_if (keys_rise (lookup_pairs (unsigned_abs count) (padding pc + 8) a)) _ (Err BadOperand) _
-            (λ rising.
-              sure_ok _ _ (record {
-                lookup = record {
-                  header = omega (arith, n.0);
-                  whole = rw n.1 (not_below (length a) (lookup_size pc (unsigned_abs count)) whole);
-                  rising = rw n.1 rising
-                };
-                counted = rw n.1 ordered;
-                same = rw (d.1, n.1) refl
-              }))
-            (λ f. sure_err BadOperand _)))))
+    sure_bind (word_at a (padding pc + 4)) _ _ _ (sure_word a (padding pc + 4)) (λ count n.
+    sure_if (int_lt count (pos 0)) (Err BadOperand) _ _ (λ t. sure_err BadOperand _) (λ ordered.
+    sure_if (nat_lt (length a) (lookup_size pc (unsigned_abs count))) (Err CutShort) _ _ (λ t. sure_err CutShort _) (λ whole.
+    sure_if (keys_rise (lookup_pairs (unsigned_abs count) (padding pc + 8) a)) _ (Err BadOperand) _
+    (λ rising.
+    sure_ok _ _ (record {
+      lookup = record {
+        header = omega (arith, n.0);
+        whole = rw n.1 (not_below (length a) (lookup_size pc (unsigned_abs count)) whole);
+        rising = rw n.1 rising;
+      };
+      counted = rw n.1 ordered;
+      same = rw (d.1, n.1) refl;
+    }))
+    (λ f. sure_err BadOperand _)))))
 
 plain_is : (pc : ℕ) (row : OpRow) (a : List ℕ) (first second : ℤ) (n : ℕ) → row.length ≡ 1 + n → n ≤ length a → Narrow pc row a (plain pc row first second)
 plain_is pc row a first second n e h = record { place = refl; narrow = refl; op = refl; positive = omega arith; within = omega arith; size = inl refl }
@@ -92,35 +92,35 @@ narrow_increment : (pc : ℕ) (row : OpRow) (a : List ℕ) → row.length ≡ 3 
 unfolding increment
 narrow_increment pc row a e =
     sure_bind (byte_at a 0) _ _ _ (sure_byte a 0) (λ n h.
-      sure_bind (byte_at a 1) _ _ _ (sure_byte a 1) (λ by k. sure_ok _ _ (plain_is pc row a _ _ 2 (omega arith) (omega (arith, k.0)))))
+    sure_bind (byte_at a 1) _ _ _ (sure_byte a 1) (λ by k. sure_ok _ _ (plain_is pc row a _ _ 2 (omega arith) (omega (arith, k.0)))))
 
 narrow_interface : (pc : ℕ) (row : OpRow) (a : List ℕ) → row.length ≡ 5 → Sure (interface_call pc row a) (Narrow pc row a)
 unfolding interface_call
 narrow_interface pc row a e =
     sure_bind (short_at a 0) _ _ _ (sure_short a 0) (λ n h.
-      sure_bind (byte_at a 2) _ _ _ (sure_byte a 2) (λ count k.
-        sure_bind (byte_at a 3) _ _ _ (sure_byte a 3) (λ end m.
-          sure_if (eqb end 0) _ (Err BadOperand) _ (λ t. sure_ok _ _ (plain_is pc row a _ _ 4 (omega arith) (omega (arith, m.0)))) (λ f. sure_err BadOperand _))))
+    sure_bind (byte_at a 2) _ _ _ (sure_byte a 2) (λ count k.
+    sure_bind (byte_at a 3) _ _ _ (sure_byte a 3) (λ end m.
+    sure_if (eqb end 0) _ (Err BadOperand) _ (λ t. sure_ok _ _ (plain_is pc row a _ _ 4 (omega arith) (omega (arith, m.0)))) (λ f. sure_err BadOperand _))))
 
 narrow_site : (pc : ℕ) (row : OpRow) (a : List ℕ) → row.length ≡ 5 → Sure (call_site pc row a) (Narrow pc row a)
 unfolding call_site
 narrow_site pc row a e =
     sure_bind (short_at a 0) _ _ _ (sure_short a 0) (λ n h.
-      sure_bind (short_at a 2) _ _ _ (sure_short a 2) (λ end m.
-        sure_if (eqb end 0) _ (Err BadOperand) _ (λ t. sure_ok _ _ (plain_is pc row a _ _ 4 (omega arith) (omega (arith, m)))) (λ f. sure_err BadOperand _)))
+    sure_bind (short_at a 2) _ _ _ (sure_short a 2) (λ end m.
+    sure_if (eqb end 0) _ (Err BadOperand) _ (λ t. sure_ok _ _ (plain_is pc row a _ _ 4 (omega arith) (omega (arith, m)))) (λ f. sure_err BadOperand _)))
 
 narrow_element : (pc : ℕ) (row : OpRow) (a : List ℕ) → row.length ≡ 2 → Sure (element_type pc row a) (Narrow pc row a)
 unfolding element_type
 narrow_element pc row a e =
     sure_bind (byte_at a 0) _ _ _ (sure_byte a 0) (λ n h.
-      sure_if (nat_le 4 n && nat_le n 11) _ (Err BadOperand) _ (λ t. sure_ok _ _ (plain_is pc row a _ _ 1 (omega arith) (omega (arith, h.0)))) (λ f. sure_err BadOperand _))
+    sure_if (nat_le 4 n && nat_le n 11) _ (Err BadOperand) _ (λ t. sure_ok _ _ (plain_is pc row a _ _ 1 (omega arith) (omega (arith, h.0)))) (λ f. sure_err BadOperand _))
 
 narrow_dimensions : (pc : ℕ) (row : OpRow) (a : List ℕ) → row.length ≡ 4 → Sure (dimensions pc row a) (Narrow pc row a)
 unfolding dimensions
 narrow_dimensions pc row a e =
     sure_bind (short_at a 0) _ _ _ (sure_short a 0) (λ n h.
-      sure_bind (byte_at a 2) _ _ _ (sure_byte a 2) (λ count k.
-        sure_if (eqb count 0) (Err BadOperand) _ _ (λ t. sure_err BadOperand _) (λ f. sure_ok _ _ (plain_is pc row a _ _ 3 (omega arith) (omega (arith, k.0))))))
+    sure_bind (byte_at a 2) _ _ _ (sure_byte a 2) (λ count k.
+    sure_if (eqb count 0) (Err BadOperand) _ _ (λ t. sure_err BadOperand _) (λ f. sure_ok _ _ (plain_is pc row a _ _ 3 (omega arith) (omega (arith, k.0))))))
 
 narrow_table : (pc : ℕ) (row : OpRow) (a : List ℕ) → row.length ≡ 0 → Sure (table_switch pc row a) (Narrow pc row a)
 narrow_table pc row a z i e =
@@ -176,14 +176,14 @@ wider_local : (pc : ℕ) (row : OpRow) (a : List ℕ) → Sure (wide_local pc ro
 unfolding wide_local
 wider_local pc row a =
     sure_bind (short_at a 0) _ _ _ (sure_short a 0) (λ n h.
-      sure_ok _ _ (record { place = refl; wide = refl; op = refl; positive = omega arith; within = omega (arith, h) }))
+    sure_ok _ _ (record { place = refl; wide = refl; op = refl; positive = omega arith; within = omega (arith, h) }))
 
 wider_increment : (pc : ℕ) (row : OpRow) (a : List ℕ) → Sure (wide_increment pc row a) (Wider pc row a)
 unfolding wide_increment
 wider_increment pc row a =
     sure_bind (short_at a 0) _ _ _ (sure_short a 0) (λ n h.
-      sure_bind (short_at a 2) _ _ _ (sure_short a 2) (λ by k.
-        sure_ok _ _ (record { place = refl; wide = refl; op = refl; positive = omega arith; within = omega (arith, k) })))
+    sure_bind (short_at a 2) _ _ _ (sure_short a 2) (λ by k.
+    sure_ok _ _ (record { place = refl; wide = refl; op = refl; positive = omega arith; within = omega (arith, k) })))
 
 wider_form : (form : Form) (pc : ℕ) (row : OpRow) (a : List ℕ) → Sure (wide_form form pc row a) (Wider pc row a)
 wider_form forms.LocalIncrement pc row a = wider_increment pc row a
@@ -197,20 +197,20 @@ pub sure_wide : (pc : ℕ) (a : List ℕ) → Sure (wide pc a) (Widened pc a)
 unfolding wide
 sure_wide pc a =
     sure_bind (byte_at a 0) _ _ _ (sure_byte a 0) (λ op h.
-      sure_bind (widened (row_of op)) _ _ _ (sure_widened (row_of op)) (λ row f. λ i e.
-        let w : Wider pc row (drop 1 a) i = wider_form row.form pc row (drop 1 a) i e in
-        let own : row.opcode ≡ op = opcode_of op row f.0 in
-        let same : op ≡ i.op = sym own ∙ sym w.op in
-        record {
-          place = w.place;
-          wide = w.wide;
-          row = row;
-          found = ap row_of (sym same) ∙ f.0;
-          takes = f.1;
-          op = h.1 ∙ same;
-          positive = w.positive;
-          within = omega (arith, h.0, w.within, length-drop 1 a)
-        }))
+    sure_bind (widened (row_of op)) _ _ _ (sure_widened (row_of op)) (λ row f. λ i e.
+    let w : Wider pc row (drop 1 a) i = wider_form row.form pc row (drop 1 a) i e in
+    let own : row.opcode ≡ op = opcode_of op row f.0 in
+    let same : op ≡ i.op = sym own ∙ sym w.op in
+    record {
+      place = w.place;
+      wide = w.wide;
+      row = row;
+      found = ap row_of (sym same) ∙ f.0;
+      takes = f.1;
+      op = h.1 ∙ same;
+      positive = w.positive;
+      within = omega (arith, h.0, w.within, length-drop 1 a);
+    }))
 
 -- the opcode, its row, and the instruction by the row's form
 pub record Decoded (pc : ℕ) (bytes : List ℕ) (i : Instr) : Type 0 where
@@ -230,8 +230,8 @@ pub decoded : (pc : ℕ) (bytes : List ℕ) → Sure (decoding pc bytes) (Decode
 unfolding decoding
 decoded pc bytes =
     sure_bind (byte_at bytes 0) _ _ _ (sure_byte bytes 0) (λ op h.
-      sure_bind (known op (row_of op)) _ _ _ (sure_known op (row_of op)) (λ row f. λ i e.
-        record { byte = op; row = row; some = h.0; first = h.1; found = f.0; plain = f.1; formed = e }))
+    sure_bind (known op (row_of op)) _ _ _ (sure_known op (row_of op)) (λ row f. λ i e.
+    record { byte = op; row = row; some = h.0; first = h.1; found = f.0; plain = f.1; formed = e }))
 
 wide_or_not : (form : Form) → (form ≡ forms.Wide) ⊎ (form ≢ forms.Wide)
 wide_or_not forms.Wide = inl refl
@@ -254,9 +254,10 @@ wide_or_not forms.Dimensions = inr (λ e. cc)
 -- either it is behind `wide`, or it is not
 pub wide_or_narrow : (pc : ℕ) (bytes : List ℕ) (i : Instr) (d : Decoded pc bytes i) → ((d.row.form ≡ forms.Wide) × Widened pc (drop 1 bytes) i) ⊎ ((d.row.form ≢ forms.Wide) × Narrow pc d.row (drop 1 bytes) i)
 wide_or_narrow pc bytes i d =
-    elim (wide_or_not d.row.form)
-    [ inl e ↦ inl (e, sure_wide pc (drop 1 bytes) i (sym (ap (λ f. by_form f pc d.row (drop 1 bytes)) e) ∙ d.formed))
-    | inr n ↦ inr (n, narrow_form d.row.form pc d.row (drop 1 bytes) (length_of_row d.byte d.row d.found) n i d.formed) ]
+    elim (wide_or_not d.row.form) [
+      | inl e ↦ inl (e, sure_wide pc (drop 1 bytes) i (sym (ap (λ f. by_form f pc d.row (drop 1 bytes)) e) ∙ d.formed))
+      | inr n ↦ inr (n, narrow_form d.row.form pc d.row (drop 1 bytes) (length_of_row d.byte d.row d.found) n i d.formed)
+    ]
 
 local_no_switch : (form : Form) → names_local form ≡ true ⊎ increments form ≡ true → is_switch form ≡ false
 local_no_switch forms.TableSwitch h = elim h [ inl e ↦ cc | inr e ↦ cc ]
@@ -266,12 +267,13 @@ local_no_switch _ h = refl
 -- a switch is the instruction of its own opcode
 pub switch_row : (pc : ℕ) (bytes : List ℕ) (i : Instr) (d : Decoded pc bytes i) → is_switch (form_of (row_of i.op)) ≡ true → row_of i.op ≡ Some d.row
 switch_row pc bytes i d s =
-    elim (wide_or_narrow pc bytes i d)
-    [ inl w ↦
-        let no : is_switch w.1.row.form ≡ false = local_no_switch w.1.row.form (wide_has_local i.op w.1.row w.1.found w.1.takes) in
-        let yes : is_switch w.1.row.form ≡ true = sym (ap (λ r. is_switch (form_of r)) w.1.found) ∙ s in
-        absurd (let never : true ≡ false = sym yes ∙ no in cc)
-    | inr n ↦ ap row_of (n.1.op ∙ opcode_of d.byte d.row d.found) ∙ d.found ]
+    elim (wide_or_narrow pc bytes i d) [
+      | inl w ↦
+          let no : is_switch w.1.row.form ≡ false = local_no_switch w.1.row.form (wide_has_local i.op w.1.row w.1.found w.1.takes) in
+          let yes : is_switch w.1.row.form ≡ true = sym (ap (λ r. is_switch (form_of r)) w.1.found) ∙ s in
+          absurd (let never : true ≡ false = sym yes ∙ no in cc)
+      | inr n ↦ ap row_of (n.1.op ∙ opcode_of d.byte d.row d.found) ∙ d.found
+    ]
 
 formed_as : (pc : ℕ) (bytes : List ℕ) (i : Instr) (d : Decoded pc bytes i) (form : Form) → is_switch form ≡ true → form_of (row_of i.op) ≡ form → by_form form pc d.row (drop 1 bytes) ≡ Ok i
 formed_as pc bytes i d form s e =
@@ -299,11 +301,12 @@ byte_there pc bytes i h = (decoded pc bytes i h).some
 pub its_row : (pc : ℕ) (bytes : List ℕ) (i : Instr) → decoding pc bytes ≡ Ok i → (get_or bytes (cond i.wide 1 0) 0 ≡ i.op) × IsSomeAnd (row_of i.op) (λ row. row.is_float ≡ false)
 its_row pc bytes i e =
     let d : Decoded pc bytes i = decoded pc bytes i e in
-    elim (wide_or_narrow pc bytes i d)
-    [ inl w ↦
-        let second : get_or bytes 1 0 ≡ i.op = sym (get_or_after_one bytes 0 0) ∙ w.1.op in
-        let plain : w.1.row.is_float ≡ false = wide_is_plain i.op w.1.row w.1.found w.1.takes in
-        (ap (λ b. get_or bytes (cond b 1 0) 0) w.1.wide ∙ second, rw w.1.found plain)
-    | inr n ↦
-        let own : i.op ≡ d.byte = n.1.op ∙ opcode_of d.byte d.row d.found in
-        (ap (λ b. get_or bytes (cond b 1 0) 0) n.1.narrow ∙ d.first ∙ sym own, rw (own, d.found) d.plain) ]
+    elim (wide_or_narrow pc bytes i d) [
+      | inl w ↦
+          let second : get_or bytes 1 0 ≡ i.op = sym (get_or_after_one bytes 0 0) ∙ w.1.op in
+          let plain : w.1.row.is_float ≡ false = wide_is_plain i.op w.1.row w.1.found w.1.takes in
+          (ap (λ b. get_or bytes (cond b 1 0) 0) w.1.wide ∙ second, rw w.1.found plain)
+      | inr n ↦
+          let own : i.op ≡ d.byte = n.1.op ∙ opcode_of d.byte d.row d.found in
+          (ap (λ b. get_or bytes (cond b 1 0) 0) n.1.narrow ∙ d.first ∙ sym own, rw (own, d.found) d.plain)
+    ]

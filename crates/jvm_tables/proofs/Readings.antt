@@ -47,7 +47,7 @@ prefix_rest n a b p =
     let enough : n ≤ length b = p.enough in
     record {
       enough = omega (arith, length-drop 1 b);
-      same = λ i less. get_or_after_one a i 0 ∙ p.same (1 + i) (omega arith) ∙ sym (get_or_after_one b i 0)
+      same = λ i less. get_or_after_one a i 0 ∙ p.same (1 + i) (omega arith) ∙ sym (get_or_after_one b i 0);
     }
 
 pub sure_byte : (a : List ℕ) (at : ℕ) → Sure (byte_at a at) (λ n. (at < length a) × (get_or a at 0 ≡ n))

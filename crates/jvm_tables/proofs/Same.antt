@@ -26,20 +26,20 @@ keeps_increment : (pc : ℕ) (row : OpRow) (a b : List ℕ) → Prefix 2 a b →
 unfolding increment
 keeps_increment pc row a b p =
     keeps_bind (byte_at a 0) (byte_at b 0) _ _ (keeps_byte 2 a b 0 p (omega arith)) (λ n.
-      keeps_bind (byte_at a 1) (byte_at b 1) _ _ (keeps_byte 2 a b 1 p (omega arith)) (λ by. keeps_same _))
+    keeps_bind (byte_at a 1) (byte_at b 1) _ _ (keeps_byte 2 a b 1 p (omega arith)) (λ by. keeps_same _))
 
 keeps_interface : (pc : ℕ) (row : OpRow) (a b : List ℕ) → Prefix 4 a b → Keeps (interface_call pc row a) (interface_call pc row b)
 unfolding interface_call
 keeps_interface pc row a b p =
     keeps_bind (short_at a 0) (short_at b 0) _ _ (keeps_short 4 a b 0 p (omega arith)) (λ n.
-      keeps_bind (byte_at a 2) (byte_at b 2) _ _ (keeps_byte 4 a b 2 p (omega arith)) (λ count.
-        keeps_bind (byte_at a 3) (byte_at b 3) _ _ (keeps_byte 4 a b 3 p (omega arith)) (λ end. keeps_same _)))
+    keeps_bind (byte_at a 2) (byte_at b 2) _ _ (keeps_byte 4 a b 2 p (omega arith)) (λ count.
+    keeps_bind (byte_at a 3) (byte_at b 3) _ _ (keeps_byte 4 a b 3 p (omega arith)) (λ end. keeps_same _)))
 
 keeps_site : (pc : ℕ) (row : OpRow) (a b : List ℕ) → Prefix 4 a b → Keeps (call_site pc row a) (call_site pc row b)
 unfolding call_site
 keeps_site pc row a b p =
     keeps_bind (short_at a 0) (short_at b 0) _ _ (keeps_short 4 a b 0 p (omega arith)) (λ n.
-      keeps_bind (short_at a 2) (short_at b 2) _ _ (keeps_short 4 a b 2 p (omega arith)) (λ end. keeps_same _))
+    keeps_bind (short_at a 2) (short_at b 2) _ _ (keeps_short 4 a b 2 p (omega arith)) (λ end. keeps_same _))
 
 keeps_element : (pc : ℕ) (row : OpRow) (a b : List ℕ) → Prefix 1 a b → Keeps (element_type pc row a) (element_type pc row b)
 unfolding element_type
@@ -50,7 +50,7 @@ keeps_dimensions : (pc : ℕ) (row : OpRow) (a b : List ℕ) → Prefix 3 a b �
 unfolding dimensions
 keeps_dimensions pc row a b p =
     keeps_bind (short_at a 0) (short_at b 0) _ _ (keeps_short 3 a b 0 p (omega arith)) (λ n.
-      keeps_bind (byte_at a 2) (byte_at b 2) _ _ (keeps_byte 3 a b 2 p (omega arith)) (λ count. keeps_same _))
+    keeps_bind (byte_at a 2) (byte_at b 2) _ _ (keeps_byte 3 a b 2 p (omega arith)) (λ count. keeps_same _))
 
 one : {A : Type 0} (a b : List ℕ) (f : ℕ → Result A CodeFault) → Prefix 1 a b → Keeps (byte_at a 0 >>= f) (byte_at b 0 >>= f)
 one a b f p = keeps_bind (byte_at a 0) (byte_at b 0) f f (keeps_byte 1 a b 0 p (omega arith)) (λ n. keeps_same _)
@@ -98,7 +98,7 @@ table_same pc row a b i e p =
     let whole : IsTable pc b = record {
       header = omega arith;
       bounds = rw (← low, ← high) t.table.bounds;
-      whole = rw (← low, ← high) (omega arith)
+      whole = rw (← low, ← high) (omega arith);
     } in
     table_again pc row b whole ∙ rw (← low, ← high, ← default) (ap Ok (sym t.same))
 
@@ -131,7 +131,7 @@ lookup_same pc row a b i e p =
     let whole : IsLookup pc b = record {
       header = omega arith;
       whole = rw (← count) (omega arith);
-      rising = rw (← count, ← pairs) t.lookup.rising
+      rising = rw (← count, ← pairs) t.lookup.rising;
     } in
     lookup_again pc row b whole (rw (← count) t.counted) ∙ rw (← count, ← default) (ap Ok (sym t.same))
 
@@ -215,7 +215,7 @@ own_prefix n a more h =
     let size : length (take n a) ≡ n = length-take n a ∙ omega arith in
     record {
       enough = omega (arith, length-append (take n a) more);
-      same = λ i less. sym (get_or_append_left (take n a) more 0 i (omega arith) ∙ get_or-take n a i 0 less)
+      same = λ i less. sym (get_or_append_left (take n a) more 0 i (omega arith) ∙ get_or-take n a i 0 less);
     }
 
 -- where the instruction ends within the code, and has a length
@@ -223,9 +223,10 @@ pub ends_within : (pc : ℕ) (bytes : List ℕ) (i : Instr) → decoding pc byte
 ends_within pc bytes i e =
     let d : Decoded pc bytes i = decoded pc bytes i e in
     let some : 0 < length bytes = d.some in
-    elim (wide_or_narrow pc bytes i d)
-    [ inl w ↦ let within : i.length ≤ length (drop 1 bytes) + 1 = w.1.within in (w.1.place, w.1.positive, omega (arith, length-drop 1 bytes))
-    | inr n ↦ let within : i.length ≤ length (drop 1 bytes) + 1 = n.1.within in (n.1.place, n.1.positive, omega (arith, length-drop 1 bytes)) ]
+    elim (wide_or_narrow pc bytes i d) [
+      | inl w ↦ let within : i.length ≤ length (drop 1 bytes) + 1 = w.1.within in (w.1.place, w.1.positive, omega (arith, length-drop 1 bytes))
+      | inr n ↦ let within : i.length ≤ length (drop 1 bytes) + 1 = n.1.within in (n.1.place, n.1.positive, omega (arith, length-drop 1 bytes))
+    ]
 
 pub own_bytes : (pc : ℕ) (bytes more : List ℕ) (i : Instr) → decoding pc bytes ≡ Ok i → decoding pc (take i.length bytes ++ more) ≡ Ok i
 own_bytes pc bytes more i e =

@@ -165,6 +165,6 @@ agrees row =
     && (is_bare row.form || int_eq row.implied (pos 0))
     && (not row.initialises || names_constant row.form)
     && (if row.is_float then float_agrees row
-      else (locals_agree row && stack_agrees row && flow_agrees row
-        && same row.takes_wide (names_local row.form || increments row.form)
-        && not (are_float row.takes) && not (are_float row.gives)))
+    else (locals_agree row && stack_agrees row && flow_agrees row
+    && same row.takes_wide (names_local row.form || increments row.form)
+    && not (are_float row.takes) && not (are_float row.gives)))

@@ -48,7 +48,7 @@ stated facts =
       is_abstract = facts.4;
       is_extensible = facts.5;
       family = facts.6;
-      abstract_method = method_named facts.0.now (option_map (λ m. (m.0.now, m.1.now)) facts.7)
+      abstract_method = method_named facts.0.now (option_map (λ m. (m.0.now, m.1.now)) facts.7);
     }
 
 abbrev pub all_stated : List Facts → List External
@@ -58,16 +58,16 @@ all_stated rows = map stated rows
 unfoldable pub externals : List External
 externals =
     map (λ facts.
-      record {
-        class = facts.0.now;
-        super_class = option_map (λ t. t.now) facts.1;
-        interfaces = map (λ t. t.now) facts.2.now;
-        is_interface = facts.3;
-        is_abstract = facts.4;
-        is_extensible = facts.5;
-        family = facts.6;
-        abstract_method = method_named facts.0.now (option_map (λ m. (m.0.now, m.1.now)) facts.7)
-      }) EXTERNALS
+    record {
+      class = facts.0.now;
+      super_class = option_map (λ t. t.now) facts.1;
+      interfaces = map (λ t. t.now) facts.2.now;
+      is_interface = facts.3;
+      is_abstract = facts.4;
+      is_extensible = facts.5;
+      family = facts.6;
+      abstract_method = method_named facts.0.now (option_map (λ m. (m.0.now, m.1.now)) facts.7);
+    }) EXTERNALS
 
 -- the first row of that name, and its place in a table that begins at a place
 abbrev pub external_from : ℕ → List ℕ → List External → Option (ℕ × External)
@@ -83,18 +83,19 @@ abbrev pub method_said : ExternalMethod → Method
 method_said method = record { class = method.class.now; name = method.name.now; descriptor = method.descriptor.now }
 
 abbrev pub said : ExternalRow → ℕ × External
-said row =
-    (row.at,
-      record {
-        class = row.class.now;
-        super_class = option_map (λ t. t.now) row.super_class;
-        interfaces = map (λ t. t.now) row.interfaces.now;
-        is_interface = row.is_interface;
-        is_abstract = row.is_abstract;
-        is_extensible = row.is_extensible;
-        family = row.family;
-        abstract_method = option_map method_said row.abstract_method
-      })
+said row = (
+  row.at,
+  record {
+    class = row.class.now;
+    super_class = option_map (λ t. t.now) row.super_class;
+    interfaces = map (λ t. t.now) row.interfaces.now;
+    is_interface = row.is_interface;
+    is_abstract = row.is_abstract;
+    is_extensible = row.is_extensible;
+    family = row.family;
+    abstract_method = option_map method_said row.abstract_method;
+  },
+)
 
 abbrev pub comes_before : List ℕ → List ℕ → Bool
 comes_before a b = is_lt (slice_cmp nat_cmp a b)

@@ -29,7 +29,7 @@ stated facts =
       name = facts.2.now;
       descriptor = facts.3.now;
       is_static = facts.4;
-      calls_back = facts.5
+      calls_back = facts.5;
     }
 
 abbrev pub all_stated : List Facts → List Native
@@ -39,14 +39,14 @@ all_stated rows = map stated rows
 unfoldable pub natives : List Native
 natives =
     map (λ facts.
-      record {
-        class = facts.0.now;
-        family = facts.1;
-        name = facts.2.now;
-        descriptor = facts.3.now;
-        is_static = facts.4;
-        calls_back = facts.5
-      }) NATIVES
+    record {
+      class = facts.0.now;
+      family = facts.1;
+      name = facts.2.now;
+      descriptor = facts.3.now;
+      is_static = facts.4;
+      calls_back = facts.5;
+    }) NATIVES
 
 -- the name of an array's class begins with a bracket, whose code is 91
 abbrev pub is_array : List ℕ → Bool
@@ -93,13 +93,14 @@ native_of class name descriptor = native_from 0 class name descriptor natives
 
 -- what a row says
 abbrev pub said : NativeRow → ℕ × Native
-said row =
-    (row.at,
-      record {
-        class = row.class.now;
-        family = row.family;
-        name = row.name.now;
-        descriptor = row.descriptor.now;
-        is_static = row.is_static;
-        calls_back = row.calls_back
-      })
+said row = (
+  row.at,
+  record {
+    class = row.class.now;
+    family = row.family;
+    name = row.name.now;
+    descriptor = row.descriptor.now;
+    is_static = row.is_static;
+    calls_back = row.calls_back;
+  },
+)

@@ -64,8 +64,8 @@ table_switch pc row bytes = do
   low ← word_at bytes (padding pc + 4)
   high ← word_at bytes (padding pc + 8)
   if int_lt high low then Err BadOperand
-    else if nat_lt (length bytes) (table_size pc low high) then Err CutShort
-    else Ok (switch_instr pc row (1 + table_size pc low high) default)
+      else if nat_lt (length bytes) (table_size pc low high) then Err CutShort
+      else Ok (switch_instr pc row (1 + table_size pc low high) default)
 
 -- the bytes from the padding on: the default, the number of pairs, and the pairs
 abbrev pub lookup_size : ℕ → ℕ → ℕ
@@ -77,10 +77,10 @@ lookup_switch pc row bytes = do
   default ← word_at bytes (padding pc)
   count ← word_at bytes (padding pc + 4)
   if int_lt count (pos 0) then Err BadOperand
-    else if nat_lt (length bytes) (lookup_size pc (unsigned_abs count)) then Err CutShort
-    else if keys_rise (lookup_pairs (unsigned_abs count) (padding pc + 8) bytes)
-    then Ok (switch_instr pc row (1 + lookup_size pc (unsigned_abs count)) default)
-    else Err BadOperand
+      else if nat_lt (length bytes) (lookup_size pc (unsigned_abs count)) then Err CutShort
+      else if keys_rise (lookup_pairs (unsigned_abs count) (padding pc + 8) bytes)
+      then Ok (switch_instr pc row (1 + lookup_size pc (unsigned_abs count)) default)
+      else Err BadOperand
 
 -- The pairs of key and offset of a switch at pc, of the bytes behind its opcode.
 unfoldable pub table_switch_pairs : ℕ → List ℕ → List (ℤ × ℤ)

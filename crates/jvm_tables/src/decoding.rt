@@ -55,7 +55,14 @@ fn known(op: u8) -> Result<OpRow, CodeFault>
 fn plain(pc: u32, row: &OpRow, first: i32, second: i32) -> Instr
     ensures { result ≡ plain pc row.now first second }
 {
-    Instr { pc, op: row.opcode, wide: false, length: u32::from(row.length), first, second }
+    Instr {
+        pc,
+        op: row.opcode,
+        wide: false,
+        length: u32::from(row.length),
+        first,
+        second,
+    }
 }
 
 // The arms of decoding: a number of the operands, and the instruction with it as its first operand.
@@ -178,7 +185,14 @@ fn wide_local(pc: u32, row: &OpRow, bytes: &[u8]) -> Result<Instr, CodeFault>
     ensures { result ≡ wide_local pc row.now bytes.now }
 {
     let local = short_at(bytes, 0)?;
-    Ok(Instr { pc, op: row.opcode, wide: true, length: 4, first: i32::from(local), second: 0 })
+    Ok(Instr {
+        pc,
+        op: row.opcode,
+        wide: true,
+        length: 4,
+        first: i32::from(local),
+        second: 0,
+    })
 }
 
 #[tactic(auto, unfolding(crate::specs::Decoding::wide_increment))]
@@ -188,5 +202,12 @@ fn wide_increment(pc: u32, row: &OpRow, bytes: &[u8]) -> Result<Instr, CodeFault
     let local = short_at(bytes, 0)?;
     let by = short_at(bytes, 2)?;
     let second = i32::from(by.cast_signed());
-    Ok(Instr { pc, op: row.opcode, wide: true, length: 6, first: i32::from(local), second })
+    Ok(Instr {
+        pc,
+        op: row.opcode,
+        wide: true,
+        length: 6,
+        first: i32::from(local),
+        second,
+    })
 }

@@ -91,8 +91,16 @@ impl Operands {
             Operands::LongLong => Some(&[ValueKind::Long, ValueKind::Long]),
             Operands::LongInt => Some(&[ValueKind::Long, ValueKind::Int]),
             Operands::ReferenceInt => Some(&[ValueKind::Reference, ValueKind::Int]),
-            Operands::ReferenceIntInt => Some(&[ValueKind::Reference, ValueKind::Int, ValueKind::Int]),
-            Operands::ReferenceIntLong => Some(&[ValueKind::Reference, ValueKind::Int, ValueKind::Long]),
+            Operands::ReferenceIntInt => Some(&[
+                ValueKind::Reference,
+                ValueKind::Int,
+                ValueKind::Int,
+            ]),
+            Operands::ReferenceIntLong => Some(&[
+                ValueKind::Reference,
+                ValueKind::Int,
+                ValueKind::Long,
+            ]),
             Operands::ReferenceIntReference => {
                 Some(&[ValueKind::Reference, ValueKind::Int, ValueKind::Reference])
             }
@@ -194,15 +202,24 @@ impl Throws {
                 "java/lang/ArrayStoreException",
             ]),
             Throws::ArrayLength => {
-                Some(&["java/lang/NullPointerException", "java/lang/IncompatibleClassChangeError"])
+                Some(&[
+                    "java/lang/NullPointerException",
+                    "java/lang/IncompatibleClassChangeError",
+                ])
             }
             Throws::NewArray => Some(&["java/lang/NegativeArraySizeException"]),
             Throws::NewReferenceArray => {
-                Some(&["java/lang/NoClassDefFoundError", "java/lang/NegativeArraySizeException"])
+                Some(&[
+                    "java/lang/NoClassDefFoundError",
+                    "java/lang/NegativeArraySizeException",
+                ])
             }
             Throws::Constant => Some(&["java/lang/UnsupportedOperationException"]),
             Throws::Cast => {
-                Some(&["java/lang/NoClassDefFoundError", "java/lang/ClassCastException"])
+                Some(&[
+                    "java/lang/NoClassDefFoundError",
+                    "java/lang/ClassCastException",
+                ])
             }
             Throws::ClassTest => Some(&["java/lang/NoClassDefFoundError"]),
             Throws::Monitor => Some(&["java/lang/NullPointerException"]),

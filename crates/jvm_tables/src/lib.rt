@@ -14,12 +14,26 @@ mod opcodes;
 mod reading;
 mod switches;
 mod switching;
+#[cfg(test)]
+mod tests;
 
 pub use code::{CodeFault, Instr};
 pub use decoding::decode;
-pub use externals::{EXTERNALS, ExternalFacts, ExternalMethod, ExternalRow, Family, external, external_at, external_names_rise, external_supers_end, externals_agree};
+pub use externals::{
+    EXTERNALS, ExternalFacts, ExternalMethod, ExternalRow, Family, external, external_at,
+    external_names_rise, external_supers_end, externals_agree,
+};
 pub use instruction::{ConstantUse, Flow, Form, OpRow, Operands, Operation, Throws, ValueKind};
-pub use laws::{instructions_end_within, instructions_have_rows, own_bytes_decide, switch_keys_lead, switch_keys_rise};
-pub use natives::{Callback, NATIVES, NativeFacts, NativeRow, callbacks_can_be_called, native_at, native_classes_are_external, native_row, natives_occur_once};
-pub use opcodes::{OPCODES, op_row, opcodes_agree_with_their_forms, opcodes_stand_once, thrown_classes_are_external};
+pub use laws::{
+    instructions_end_within, instructions_have_rows, own_bytes_decide, switch_keys_lead,
+    switch_keys_rise,
+};
+pub use natives::{
+    Callback, NATIVES, NativeFacts, NativeRow, callbacks_can_be_called, native_at,
+    native_classes_are_external, native_row, natives_occur_once,
+};
+pub use opcodes::{
+    OPCODES, op_row, opcodes_agree_with_their_forms, opcodes_stand_once,
+    thrown_classes_are_external,
+};
 pub use switching::{is_switch, switch_case, switch_len, switch_target};

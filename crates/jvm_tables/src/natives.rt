@@ -3,7 +3,6 @@
 ghost use Rattle.std.specs.Prelude.{◌≡◌, ◌<◌, ◌^◌, IsTrue, length, option_map, slice_get};
 ghost use Rattle.jvm_tables.specs.Externals.{method_said, said as external_said, external_of};
 ghost use Rattle.jvm_tables.specs.Natives.{native_from, native_of, natives, all_stated, stated, said, is_native, stands_on, is_list, is_throwable};
-
 ghost use Rattle.jvm_tables.specs.declared.natives.Callback.{Callback};
 ghost use Rattle.jvm_tables.specs.Callbacks.{called_back};
 ghost use Rattle.jvm_tables.specs.Once.{all_apart, classes_known, can_be_called};
@@ -42,7 +41,14 @@ pub struct NativeRow {
 
 /// What the table states of a native: its class, family, name and descriptor, whether it is static,
 /// and what it calls back.
-pub type NativeFacts = (&'static str, Family, &'static str, &'static str, bool, Option<Callback>);
+pub type NativeFacts = (
+    &'static str,
+    Family,
+    &'static str,
+    &'static str,
+    bool,
+    Option<Callback>,
+);
 
 macro_rules! rows {
     ($(($class:literal, $family:ident, $name:literal, $descriptor:literal, $is_static:literal $(, $calls_back:ident)?),)*) => {
@@ -56,124 +62,634 @@ macro_rules! callback {
 }
 
 /// The natives.
-pub static NATIVES: [NativeFacts; 118] = rows! [
+pub static NATIVES: [NativeFacts; 118] = rows![
     ("java/lang/Object", Alone, "<init>", "()V", false),
-    ("java/lang/Object", Alone, "toString", "()Ljava/lang/String;", false),
+    (
+        "java/lang/Object",
+        Alone,
+        "toString",
+        "()Ljava/lang/String;",
+        false
+    ),
     ("java/lang/Object", Alone, "hashCode", "()I", false),
-    ("java/lang/Object", Alone, "equals", "(Ljava/lang/Object;)Z", false),
-    ("java/lang/Object", Arrays, "clone", "()Ljava/lang/Object;", false),
+    (
+        "java/lang/Object",
+        Alone,
+        "equals",
+        "(Ljava/lang/Object;)Z",
+        false
+    ),
+    (
+        "java/lang/Object",
+        Arrays,
+        "clone",
+        "()Ljava/lang/Object;",
+        false
+    ),
     ("java/lang/String", Alone, "length", "()I", false),
     ("java/lang/String", Alone, "isEmpty", "()Z", false),
     ("java/lang/String", Alone, "charAt", "(I)C", false),
-    ("java/lang/String", Alone, "substring", "(I)Ljava/lang/String;", false),
-    ("java/lang/String", Alone, "substring", "(II)Ljava/lang/String;", false),
-    ("java/lang/String", Alone, "indexOf", "(Ljava/lang/String;)I", false),
-    ("java/lang/String", Alone, "startsWith", "(Ljava/lang/String;)Z", false),
-    ("java/lang/String", Alone, "endsWith", "(Ljava/lang/String;)Z", false),
-    ("java/lang/String", Alone, "concat", "(Ljava/lang/String;)Ljava/lang/String;", false),
-    ("java/lang/String", Alone, "compareTo", "(Ljava/lang/String;)I", false),
-    ("java/lang/String", Alone, "equals", "(Ljava/lang/Object;)Z", false),
+    (
+        "java/lang/String",
+        Alone,
+        "substring",
+        "(I)Ljava/lang/String;",
+        false
+    ),
+    (
+        "java/lang/String",
+        Alone,
+        "substring",
+        "(II)Ljava/lang/String;",
+        false
+    ),
+    (
+        "java/lang/String",
+        Alone,
+        "indexOf",
+        "(Ljava/lang/String;)I",
+        false
+    ),
+    (
+        "java/lang/String",
+        Alone,
+        "startsWith",
+        "(Ljava/lang/String;)Z",
+        false
+    ),
+    (
+        "java/lang/String",
+        Alone,
+        "endsWith",
+        "(Ljava/lang/String;)Z",
+        false
+    ),
+    (
+        "java/lang/String",
+        Alone,
+        "concat",
+        "(Ljava/lang/String;)Ljava/lang/String;",
+        false
+    ),
+    (
+        "java/lang/String",
+        Alone,
+        "compareTo",
+        "(Ljava/lang/String;)I",
+        false
+    ),
+    (
+        "java/lang/String",
+        Alone,
+        "equals",
+        "(Ljava/lang/Object;)Z",
+        false
+    ),
     ("java/lang/String", Alone, "hashCode", "()I", false),
-    ("java/lang/String", Alone, "toString", "()Ljava/lang/String;", false),
-    ("java/lang/String", Alone, "contains", "(Ljava/lang/CharSequence;)Z", false),
-    ("java/lang/String", Alone, "valueOf", "(I)Ljava/lang/String;", true),
-    ("java/lang/String", Alone, "valueOf", "(J)Ljava/lang/String;", true),
-    ("java/lang/String", Alone, "valueOf", "(Z)Ljava/lang/String;", true),
-    ("java/lang/String", Alone, "valueOf", "(C)Ljava/lang/String;", true),
-    ("java/lang/String", Alone, "valueOf", "(Ljava/lang/Object;)Ljava/lang/String;", true, ToString),
+    (
+        "java/lang/String",
+        Alone,
+        "toString",
+        "()Ljava/lang/String;",
+        false
+    ),
+    (
+        "java/lang/String",
+        Alone,
+        "contains",
+        "(Ljava/lang/CharSequence;)Z",
+        false
+    ),
+    (
+        "java/lang/String",
+        Alone,
+        "valueOf",
+        "(I)Ljava/lang/String;",
+        true
+    ),
+    (
+        "java/lang/String",
+        Alone,
+        "valueOf",
+        "(J)Ljava/lang/String;",
+        true
+    ),
+    (
+        "java/lang/String",
+        Alone,
+        "valueOf",
+        "(Z)Ljava/lang/String;",
+        true
+    ),
+    (
+        "java/lang/String",
+        Alone,
+        "valueOf",
+        "(C)Ljava/lang/String;",
+        true
+    ),
+    (
+        "java/lang/String",
+        Alone,
+        "valueOf",
+        "(Ljava/lang/Object;)Ljava/lang/String;",
+        true,
+        ToString
+    ),
     ("java/lang/StringBuilder", Alone, "<init>", "()V", false),
-    ("java/lang/StringBuilder", Alone, "<init>", "(Ljava/lang/String;)V", false),
-    ("java/lang/StringBuilder", Alone, "toString", "()Ljava/lang/String;", false),
+    (
+        "java/lang/StringBuilder",
+        Alone,
+        "<init>",
+        "(Ljava/lang/String;)V",
+        false
+    ),
+    (
+        "java/lang/StringBuilder",
+        Alone,
+        "toString",
+        "()Ljava/lang/String;",
+        false
+    ),
     ("java/lang/StringBuilder", Alone, "length", "()I", false),
-    ("java/lang/StringBuilder", Alone, "append", "(Ljava/lang/String;)Ljava/lang/StringBuilder;", false),
-    ("java/lang/StringBuilder", Alone, "append", "(I)Ljava/lang/StringBuilder;", false),
-    ("java/lang/StringBuilder", Alone, "append", "(J)Ljava/lang/StringBuilder;", false),
-    ("java/lang/StringBuilder", Alone, "append", "(C)Ljava/lang/StringBuilder;", false),
-    ("java/lang/StringBuilder", Alone, "append", "(Z)Ljava/lang/StringBuilder;", false),
-    ("java/lang/StringBuilder", Alone, "append", "(Ljava/lang/Object;)Ljava/lang/StringBuilder;", false, ToString),
-    ("java/lang/Integer", Alone, "valueOf", "(I)Ljava/lang/Integer;", true),
-    ("java/lang/Integer", Alone, "parseInt", "(Ljava/lang/String;)I", true),
-    ("java/lang/Integer", Alone, "toString", "(I)Ljava/lang/String;", true),
+    (
+        "java/lang/StringBuilder",
+        Alone,
+        "append",
+        "(Ljava/lang/String;)Ljava/lang/StringBuilder;",
+        false
+    ),
+    (
+        "java/lang/StringBuilder",
+        Alone,
+        "append",
+        "(I)Ljava/lang/StringBuilder;",
+        false
+    ),
+    (
+        "java/lang/StringBuilder",
+        Alone,
+        "append",
+        "(J)Ljava/lang/StringBuilder;",
+        false
+    ),
+    (
+        "java/lang/StringBuilder",
+        Alone,
+        "append",
+        "(C)Ljava/lang/StringBuilder;",
+        false
+    ),
+    (
+        "java/lang/StringBuilder",
+        Alone,
+        "append",
+        "(Z)Ljava/lang/StringBuilder;",
+        false
+    ),
+    (
+        "java/lang/StringBuilder",
+        Alone,
+        "append",
+        "(Ljava/lang/Object;)Ljava/lang/StringBuilder;",
+        false,
+        ToString
+    ),
+    (
+        "java/lang/Integer",
+        Alone,
+        "valueOf",
+        "(I)Ljava/lang/Integer;",
+        true
+    ),
+    (
+        "java/lang/Integer",
+        Alone,
+        "parseInt",
+        "(Ljava/lang/String;)I",
+        true
+    ),
+    (
+        "java/lang/Integer",
+        Alone,
+        "toString",
+        "(I)Ljava/lang/String;",
+        true
+    ),
     ("java/lang/Integer", Alone, "sum", "(II)I", true),
     ("java/lang/Integer", Alone, "intValue", "()I", false),
     ("java/lang/Integer", Alone, "longValue", "()J", false),
-    ("java/lang/Integer", Alone, "equals", "(Ljava/lang/Object;)Z", false),
+    (
+        "java/lang/Integer",
+        Alone,
+        "equals",
+        "(Ljava/lang/Object;)Z",
+        false
+    ),
     ("java/lang/Integer", Alone, "hashCode", "()I", false),
-    ("java/lang/Integer", Alone, "toString", "()Ljava/lang/String;", false),
-    ("java/lang/Long", Alone, "valueOf", "(J)Ljava/lang/Long;", true),
-    ("java/lang/Long", Alone, "parseLong", "(Ljava/lang/String;)J", true),
-    ("java/lang/Long", Alone, "toString", "(J)Ljava/lang/String;", true),
+    (
+        "java/lang/Integer",
+        Alone,
+        "toString",
+        "()Ljava/lang/String;",
+        false
+    ),
+    (
+        "java/lang/Long",
+        Alone,
+        "valueOf",
+        "(J)Ljava/lang/Long;",
+        true
+    ),
+    (
+        "java/lang/Long",
+        Alone,
+        "parseLong",
+        "(Ljava/lang/String;)J",
+        true
+    ),
+    (
+        "java/lang/Long",
+        Alone,
+        "toString",
+        "(J)Ljava/lang/String;",
+        true
+    ),
     ("java/lang/Long", Alone, "sum", "(JJ)J", true),
     ("java/lang/Long", Alone, "intValue", "()I", false),
     ("java/lang/Long", Alone, "longValue", "()J", false),
-    ("java/lang/Long", Alone, "equals", "(Ljava/lang/Object;)Z", false),
+    (
+        "java/lang/Long",
+        Alone,
+        "equals",
+        "(Ljava/lang/Object;)Z",
+        false
+    ),
     ("java/lang/Long", Alone, "hashCode", "()I", false),
-    ("java/lang/Long", Alone, "toString", "()Ljava/lang/String;", false),
-    ("java/lang/Boolean", Alone, "valueOf", "(Z)Ljava/lang/Boolean;", true),
+    (
+        "java/lang/Long",
+        Alone,
+        "toString",
+        "()Ljava/lang/String;",
+        false
+    ),
+    (
+        "java/lang/Boolean",
+        Alone,
+        "valueOf",
+        "(Z)Ljava/lang/Boolean;",
+        true
+    ),
     ("java/lang/Boolean", Alone, "booleanValue", "()Z", false),
-    ("java/lang/Boolean", Alone, "equals", "(Ljava/lang/Object;)Z", false),
+    (
+        "java/lang/Boolean",
+        Alone,
+        "equals",
+        "(Ljava/lang/Object;)Z",
+        false
+    ),
     ("java/lang/Boolean", Alone, "hashCode", "()I", false),
-    ("java/lang/Boolean", Alone, "toString", "()Ljava/lang/String;", false),
+    (
+        "java/lang/Boolean",
+        Alone,
+        "toString",
+        "()Ljava/lang/String;",
+        false
+    ),
     ("java/lang/Math", Alone, "abs", "(I)I", true),
     ("java/lang/Math", Alone, "abs", "(J)J", true),
     ("java/lang/Math", Alone, "max", "(II)I", true),
     ("java/lang/Math", Alone, "max", "(JJ)J", true),
     ("java/lang/Math", Alone, "min", "(II)I", true),
     ("java/lang/Math", Alone, "min", "(JJ)J", true),
-    ("java/util/Objects", Alone, "requireNonNull", "(Ljava/lang/Object;)Ljava/lang/Object;", true),
-    ("java/util/Objects", Alone, "equals", "(Ljava/lang/Object;Ljava/lang/Object;)Z", true, Equals),
-    ("java/lang/Enum", Alone, "<init>", "(Ljava/lang/String;I)V", false),
-    ("java/lang/Enum", Alone, "name", "()Ljava/lang/String;", false),
+    (
+        "java/util/Objects",
+        Alone,
+        "requireNonNull",
+        "(Ljava/lang/Object;)Ljava/lang/Object;",
+        true
+    ),
+    (
+        "java/util/Objects",
+        Alone,
+        "equals",
+        "(Ljava/lang/Object;Ljava/lang/Object;)Z",
+        true,
+        Equals
+    ),
+    (
+        "java/lang/Enum",
+        Alone,
+        "<init>",
+        "(Ljava/lang/String;I)V",
+        false
+    ),
+    (
+        "java/lang/Enum",
+        Alone,
+        "name",
+        "()Ljava/lang/String;",
+        false
+    ),
     ("java/lang/Enum", Alone, "ordinal", "()I", false),
-    ("java/lang/Enum", Alone, "toString", "()Ljava/lang/String;", false),
+    (
+        "java/lang/Enum",
+        Alone,
+        "toString",
+        "()Ljava/lang/String;",
+        false
+    ),
     ("java/util/ArrayList", Alone, "<init>", "()V", false),
     ("java/util/ArrayList", Alone, "<init>", "(I)V", false),
     ("java/util/Collection", Lists, "size", "()I", false),
     ("java/util/Collection", Lists, "isEmpty", "()Z", false),
-    ("java/util/Collection", Lists, "get", "(I)Ljava/lang/Object;", false),
-    ("java/util/Collection", Lists, "set", "(ILjava/lang/Object;)Ljava/lang/Object;", false),
-    ("java/util/Collection", Lists, "add", "(Ljava/lang/Object;)Z", false),
-    ("java/util/Collection", Lists, "contains", "(Ljava/lang/Object;)Z", false, Equals),
-    ("java/util/Collection", Lists, "indexOf", "(Ljava/lang/Object;)I", false, Equals),
-    ("java/util/Collection", Lists, "iterator", "()Ljava/util/Iterator;", false),
-    ("java/util/Collection", Lists, "forEach", "(Ljava/util/function/Consumer;)V", false, Accept),
-    ("java/util/Collection", Lists, "toString", "()Ljava/lang/String;", false, ToString),
-    ("java/util/Collection", Lists, "equals", "(Ljava/lang/Object;)Z", false),
+    (
+        "java/util/Collection",
+        Lists,
+        "get",
+        "(I)Ljava/lang/Object;",
+        false
+    ),
+    (
+        "java/util/Collection",
+        Lists,
+        "set",
+        "(ILjava/lang/Object;)Ljava/lang/Object;",
+        false
+    ),
+    (
+        "java/util/Collection",
+        Lists,
+        "add",
+        "(Ljava/lang/Object;)Z",
+        false
+    ),
+    (
+        "java/util/Collection",
+        Lists,
+        "contains",
+        "(Ljava/lang/Object;)Z",
+        false,
+        Equals
+    ),
+    (
+        "java/util/Collection",
+        Lists,
+        "indexOf",
+        "(Ljava/lang/Object;)I",
+        false,
+        Equals
+    ),
+    (
+        "java/util/Collection",
+        Lists,
+        "iterator",
+        "()Ljava/util/Iterator;",
+        false
+    ),
+    (
+        "java/util/Collection",
+        Lists,
+        "forEach",
+        "(Ljava/util/function/Consumer;)V",
+        false,
+        Accept
+    ),
+    (
+        "java/util/Collection",
+        Lists,
+        "toString",
+        "()Ljava/lang/String;",
+        false,
+        ToString
+    ),
+    (
+        "java/util/Collection",
+        Lists,
+        "equals",
+        "(Ljava/lang/Object;)Z",
+        false
+    ),
     ("java/util/Collection", Lists, "hashCode", "()I", false),
     ("java/util/List", Alone, "of", "()Ljava/util/List;", true),
-    ("java/util/List", Alone, "of", "(Ljava/lang/Object;)Ljava/util/List;", true),
-    ("java/util/List", Alone, "of", "(Ljava/lang/Object;Ljava/lang/Object;)Ljava/util/List;", true),
-    ("java/util/List", Alone, "of", "(Ljava/lang/Object;Ljava/lang/Object;Ljava/lang/Object;)Ljava/util/List;", true),
-    ("java/util/List", Alone, "of", "(Ljava/lang/Object;Ljava/lang/Object;Ljava/lang/Object;Ljava/lang/Object;)Ljava/util/List;", true),
-    ("java/util/List", Alone, "of", "(Ljava/lang/Object;Ljava/lang/Object;Ljava/lang/Object;Ljava/lang/Object;Ljava/lang/Object;)Ljava/util/List;", true),
-    ("java/util/List", Alone, "of", "(Ljava/lang/Object;Ljava/lang/Object;Ljava/lang/Object;Ljava/lang/Object;Ljava/lang/Object;Ljava/lang/Object;)Ljava/util/List;", true),
-    ("java/util/List", Alone, "of", "(Ljava/lang/Object;Ljava/lang/Object;Ljava/lang/Object;Ljava/lang/Object;Ljava/lang/Object;Ljava/lang/Object;Ljava/lang/Object;)Ljava/util/List;", true),
-    ("java/util/List", Alone, "of", "(Ljava/lang/Object;Ljava/lang/Object;Ljava/lang/Object;Ljava/lang/Object;Ljava/lang/Object;Ljava/lang/Object;Ljava/lang/Object;Ljava/lang/Object;)Ljava/util/List;", true),
-    ("java/util/List", Alone, "of", "(Ljava/lang/Object;Ljava/lang/Object;Ljava/lang/Object;Ljava/lang/Object;Ljava/lang/Object;Ljava/lang/Object;Ljava/lang/Object;Ljava/lang/Object;Ljava/lang/Object;)Ljava/util/List;", true),
-    ("java/util/List", Alone, "of", "(Ljava/lang/Object;Ljava/lang/Object;Ljava/lang/Object;Ljava/lang/Object;Ljava/lang/Object;Ljava/lang/Object;Ljava/lang/Object;Ljava/lang/Object;Ljava/lang/Object;Ljava/lang/Object;)Ljava/util/List;", true),
-    ("java/util/List", Alone, "of", "([Ljava/lang/Object;)Ljava/util/List;", true),
+    (
+        "java/util/List",
+        Alone,
+        "of",
+        "(Ljava/lang/Object;)Ljava/util/List;",
+        true
+    ),
+    (
+        "java/util/List",
+        Alone,
+        "of",
+        "(Ljava/lang/Object;Ljava/lang/Object;)Ljava/util/List;",
+        true
+    ),
+    (
+        "java/util/List",
+        Alone,
+        "of",
+        "(Ljava/lang/Object;Ljava/lang/Object;Ljava/lang/Object;)Ljava/util/List;",
+        true
+    ),
+    (
+        "java/util/List",
+        Alone,
+        "of",
+        "(Ljava/lang/Object;Ljava/lang/Object;Ljava/lang/Object;Ljava/lang/Object;)Ljava/util/List;",
+        true
+    ),
+    (
+        "java/util/List",
+        Alone,
+        "of",
+        "(Ljava/lang/Object;Ljava/lang/Object;Ljava/lang/Object;Ljava/lang/Object;Ljava/lang/Object;)Ljava/util/List;",
+        true
+    ),
+    (
+        "java/util/List",
+        Alone,
+        "of",
+        "(Ljava/lang/Object;Ljava/lang/Object;Ljava/lang/Object;Ljava/lang/Object;Ljava/lang/Object;Ljava/lang/Object;)Ljava/util/List;",
+        true
+    ),
+    (
+        "java/util/List",
+        Alone,
+        "of",
+        "(Ljava/lang/Object;Ljava/lang/Object;Ljava/lang/Object;Ljava/lang/Object;Ljava/lang/Object;Ljava/lang/Object;Ljava/lang/Object;)Ljava/util/List;",
+        true
+    ),
+    (
+        "java/util/List",
+        Alone,
+        "of",
+        "(Ljava/lang/Object;Ljava/lang/Object;Ljava/lang/Object;Ljava/lang/Object;Ljava/lang/Object;Ljava/lang/Object;Ljava/lang/Object;Ljava/lang/Object;)Ljava/util/List;",
+        true
+    ),
+    (
+        "java/util/List",
+        Alone,
+        "of",
+        "(Ljava/lang/Object;Ljava/lang/Object;Ljava/lang/Object;Ljava/lang/Object;Ljava/lang/Object;Ljava/lang/Object;Ljava/lang/Object;Ljava/lang/Object;Ljava/lang/Object;)Ljava/util/List;",
+        true
+    ),
+    (
+        "java/util/List",
+        Alone,
+        "of",
+        "(Ljava/lang/Object;Ljava/lang/Object;Ljava/lang/Object;Ljava/lang/Object;Ljava/lang/Object;Ljava/lang/Object;Ljava/lang/Object;Ljava/lang/Object;Ljava/lang/Object;Ljava/lang/Object;)Ljava/util/List;",
+        true
+    ),
+    (
+        "java/util/List",
+        Alone,
+        "of",
+        "([Ljava/lang/Object;)Ljava/util/List;",
+        true
+    ),
     ("java/util/Iterator", Alone, "hasNext", "()Z", false),
-    ("java/util/Iterator", Alone, "next", "()Ljava/lang/Object;", false),
+    (
+        "java/util/Iterator",
+        Alone,
+        "next",
+        "()Ljava/lang/Object;",
+        false
+    ),
     ("java/lang/Throwable", Throwables, "<init>", "()V", false),
-    ("java/lang/Throwable", Throwables, "<init>", "(Ljava/lang/String;)V", false),
-    ("java/lang/Throwable", Throwables, "<init>", "(Ljava/lang/String;Ljava/lang/Throwable;)V", false),
-    ("java/lang/Throwable", Throwables, "<init>", "(Ljava/lang/Throwable;)V", false, ToString),
-    ("java/lang/Throwable", Throwables, "getMessage", "()Ljava/lang/String;", false),
-    ("java/lang/Throwable", Throwables, "getCause", "()Ljava/lang/Throwable;", false),
-    ("java/lang/Throwable", Throwables, "addSuppressed", "(Ljava/lang/Throwable;)V", false),
-    ("java/lang/Throwable", Throwables, "toString", "()Ljava/lang/String;", false),
-    ("mill/Lists", Alone, "map", "(Ljava/util/List;Ljava/util/function/Function;)Ljava/util/List;", true, Apply),
-    ("mill/Lists", Alone, "filter", "(Ljava/util/List;Ljava/util/function/Predicate;)Ljava/util/List;", true, Test),
-    ("mill/Lists", Alone, "fold", "(Ljava/util/List;Ljava/lang/Object;Ljava/util/function/BiFunction;)Ljava/lang/Object;", true, ApplyTwo),
-    ("mill/Lists", Alone, "each", "(Ljava/util/List;Ljava/util/function/Consumer;)V", true, Accept),
-    ("mill/Fs", Alone, "read", "(Lmill/PathRef;Ljava/lang/String;)Ljava/lang/String;", true),
-    ("mill/Fs", Alone, "size", "(Lmill/PathRef;Ljava/lang/String;)J", true),
-    ("mill/Fs", Alone, "list", "(Lmill/PathRef;)Ljava/util/List;", true),
-    ("mill/Fs", Alone, "write", "(Ljava/lang/String;Ljava/lang/String;)V", true),
-    ("mill/Fs", Alone, "dest", "(Ljava/lang/String;)Lmill/PathRef;", true),
-    ("mill/PathRef", Alone, "sub", "(Ljava/lang/String;)Lmill/PathRef;", false),
+    (
+        "java/lang/Throwable",
+        Throwables,
+        "<init>",
+        "(Ljava/lang/String;)V",
+        false
+    ),
+    (
+        "java/lang/Throwable",
+        Throwables,
+        "<init>",
+        "(Ljava/lang/String;Ljava/lang/Throwable;)V",
+        false
+    ),
+    (
+        "java/lang/Throwable",
+        Throwables,
+        "<init>",
+        "(Ljava/lang/Throwable;)V",
+        false,
+        ToString
+    ),
+    (
+        "java/lang/Throwable",
+        Throwables,
+        "getMessage",
+        "()Ljava/lang/String;",
+        false
+    ),
+    (
+        "java/lang/Throwable",
+        Throwables,
+        "getCause",
+        "()Ljava/lang/Throwable;",
+        false
+    ),
+    (
+        "java/lang/Throwable",
+        Throwables,
+        "addSuppressed",
+        "(Ljava/lang/Throwable;)V",
+        false
+    ),
+    (
+        "java/lang/Throwable",
+        Throwables,
+        "toString",
+        "()Ljava/lang/String;",
+        false
+    ),
+    (
+        "mill/Lists",
+        Alone,
+        "map",
+        "(Ljava/util/List;Ljava/util/function/Function;)Ljava/util/List;",
+        true,
+        Apply
+    ),
+    (
+        "mill/Lists",
+        Alone,
+        "filter",
+        "(Ljava/util/List;Ljava/util/function/Predicate;)Ljava/util/List;",
+        true,
+        Test
+    ),
+    (
+        "mill/Lists",
+        Alone,
+        "fold",
+        "(Ljava/util/List;Ljava/lang/Object;Ljava/util/function/BiFunction;)Ljava/lang/Object;",
+        true,
+        ApplyTwo
+    ),
+    (
+        "mill/Lists",
+        Alone,
+        "each",
+        "(Ljava/util/List;Ljava/util/function/Consumer;)V",
+        true,
+        Accept
+    ),
+    (
+        "mill/Fs",
+        Alone,
+        "read",
+        "(Lmill/PathRef;Ljava/lang/String;)Ljava/lang/String;",
+        true
+    ),
+    (
+        "mill/Fs",
+        Alone,
+        "size",
+        "(Lmill/PathRef;Ljava/lang/String;)J",
+        true
+    ),
+    (
+        "mill/Fs",
+        Alone,
+        "list",
+        "(Lmill/PathRef;)Ljava/util/List;",
+        true
+    ),
+    (
+        "mill/Fs",
+        Alone,
+        "write",
+        "(Ljava/lang/String;Ljava/lang/String;)V",
+        true
+    ),
+    (
+        "mill/Fs",
+        Alone,
+        "dest",
+        "(Ljava/lang/String;)Lmill/PathRef;",
+        true
+    ),
+    (
+        "mill/PathRef",
+        Alone,
+        "sub",
+        "(Ljava/lang/String;)Lmill/PathRef;",
+        false
+    ),
     ("mill/Log", Alone, "info", "(Ljava/lang/String;)V", true),
-    ("mill/Env", Alone, "get", "(Ljava/lang/String;)Ljava/lang/String;", true),
+    (
+        "mill/Env",
+        Alone,
+        "get",
+        "(Ljava/lang/String;)Ljava/lang/String;",
+        true
+    ),
     ("mill/Env", Alone, "now", "()J", true),
 ];
 
@@ -198,10 +714,19 @@ fn native_among(rows: &[NativeFacts], at: u32) -> Option<NativeRow>
     ensures { option_map said result ≡ option_map (λ row. (at, row)) (slice_get (all_stated rows.now) at) }
 {
     let place = at as usize;
-    if place < rows.len() { Some(stated_row(at, &rows[place])) } else { None }
+    if place < rows.len() {
+        Some(stated_row(at, &rows[place]))
+    } else {
+        None
+    }
 }
 
-fn find_native(rows: &[NativeFacts], class: &[u8], name: &[u8], descriptor: &[u8]) -> Option<NativeRow>
+fn find_native(
+    rows: &[NativeFacts],
+    class: &[u8],
+    name: &[u8],
+    descriptor: &[u8],
+) -> Option<NativeRow>
     requires { length rows.now < 2 ^ 32 }
     ensures { option_map said result ≡ native_from 0 class.now name.now descriptor.now (all_stated rows.now) }
 {
@@ -217,7 +742,9 @@ fn find_native(rows: &[NativeFacts], class: &[u8], name: &[u8], descriptor: &[u8
 fn is_native(facts: &NativeFacts, class: &[u8], name: &[u8], descriptor: &[u8]) -> bool
     ensures { result ≡ is_native class.now name.now descriptor.now (stated facts.now) }
 {
-    facts.2.as_bytes() == name && facts.3.as_bytes() == descriptor && stands_on(facts.0, facts.1, class)
+    facts.2.as_bytes() == name
+        && facts.3.as_bytes() == descriptor
+        && stands_on(facts.0, facts.1, class)
 }
 
 // Whether a native of that class and family stands on a class.
@@ -235,20 +762,40 @@ fn stands_on(owner: &str, family: Family, class: &[u8]) -> bool
 fn is_list(row: Option<ExternalRow>) -> bool
     ensures { result ≡ is_list (option_map external_said row) }
 {
-    matches!(row, Some(ExternalRow { family: Family::Lists, .. }))
+    matches!(
+        row,
+        Some(ExternalRow {
+            family: Family::Lists,
+            ..
+        })
+    )
 }
 
 fn is_throwable(row: Option<ExternalRow>) -> bool
     ensures { result ≡ is_throwable (option_map external_said row) }
 {
-    matches!(row, Some(ExternalRow { family: Family::Throwables, .. }))
+    matches!(
+        row,
+        Some(ExternalRow {
+            family: Family::Throwables,
+            ..
+        })
+    )
 }
 
 fn stated_row(at: u32, facts: &NativeFacts) -> NativeRow
     ensures { said result ≡ (at, stated facts.now) }
 {
     let (class, family, name, descriptor, is_static, calls_back) = *facts;
-    NativeRow { at, class, family, name, descriptor, is_static, calls_back }
+    NativeRow {
+        at,
+        class,
+        family,
+        name,
+        descriptor,
+        is_static,
+        calls_back,
+    }
 }
 
 impl Callback {
@@ -260,12 +807,32 @@ impl Callback {
         let (class, name, descriptor) = match self {
             Callback::ToString => (object, "toString", "()Ljava/lang/String;"),
             Callback::Equals => (object, "equals", "(Ljava/lang/Object;)Z"),
-            Callback::Accept => ("java/util/function/Consumer", "accept", "(Ljava/lang/Object;)V"),
-            Callback::Apply => ("java/util/function/Function", "apply", "(Ljava/lang/Object;)Ljava/lang/Object;"),
-            Callback::ApplyTwo => ("java/util/function/BiFunction", "apply", "(Ljava/lang/Object;Ljava/lang/Object;)Ljava/lang/Object;"),
-            Callback::Test => ("java/util/function/Predicate", "test", "(Ljava/lang/Object;)Z"),
+            Callback::Accept => (
+                "java/util/function/Consumer",
+                "accept",
+                "(Ljava/lang/Object;)V",
+            ),
+            Callback::Apply => (
+                "java/util/function/Function",
+                "apply",
+                "(Ljava/lang/Object;)Ljava/lang/Object;",
+            ),
+            Callback::ApplyTwo => (
+                "java/util/function/BiFunction",
+                "apply",
+                "(Ljava/lang/Object;Ljava/lang/Object;)Ljava/lang/Object;",
+            ),
+            Callback::Test => (
+                "java/util/function/Predicate",
+                "test",
+                "(Ljava/lang/Object;)Z",
+            ),
         };
-        ExternalMethod { class, name, descriptor }
+        ExternalMethod {
+            class,
+            name,
+            descriptor,
+        }
     }
 }
 
@@ -273,18 +840,15 @@ impl Callback {
 #[tactic(auto, unfolding(crate::specs::Natives::natives, crate::specs::Externals::externals))]
 pub fn natives_occur_once()
     ensures { IsTrue (all_apart natives) }
-{
-}
+{}
 
 /// The class of each native is in the table of external classes.
 #[tactic(auto, unfolding(crate::specs::Natives::natives, crate::specs::Externals::externals))]
 pub fn native_classes_are_external()
     ensures { IsTrue (classes_known natives) }
-{
-}
+{}
 
 /// What natives call back is a native of objects, or the abstract method of an external interface.
 pub fn callbacks_can_be_called()
     ensures { (callback : Callback) → IsTrue (can_be_called (called_back callback)) }
-{
-}
+{}

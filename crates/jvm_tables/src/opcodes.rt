@@ -263,25 +263,26 @@ fn row_in(rows: &[Option<OpRow>], op: u8) -> Option<OpRow>
     requires { IsTrue (stands_from 0 rows.now) }
     ensures { result ≡ find_row op rows.now }
 {
-    if (op as usize) < rows.len() { rows[op as usize] } else { None }
+    if (op as usize) < rows.len() {
+        rows[op as usize]
+    } else {
+        None
+    }
 }
 
 /// Each row stands at its own opcode, so no opcode has two.
 pub fn opcodes_stand_once()
     ensures { IsTrue (stands_from 0 OPCODES) }
-{
-}
+{}
 
 /// Length, effects on locals and operand stack, constant and control flow of each row agree with its
 /// operand form.
 pub fn opcodes_agree_with_their_forms()
     ensures { IsTrue (every agrees OPCODES) }
-{
-}
+{}
 
 /// The classes that an instruction may throw are throwables of the table of external classes.
 #[tactic(auto, unfolding(crate::specs::Externals::externals))]
 pub fn thrown_classes_are_external()
     ensures { IsTrue (every (λ row. are_throwables (thrown row.throws)) OPCODES) }
-{
-}
+{}

@@ -8,7 +8,11 @@ use crate::code::CodeFault;
 pub(crate) fn byte_at(bytes: &[u8], at: usize) -> Result<u8, CodeFault>
     ensures { result ≡ byte_at bytes.now at }
 {
-    if at < bytes.len() { Ok(bytes[at]) } else { Err(CodeFault::CutShort) }
+    if at < bytes.len() {
+        Ok(bytes[at])
+    } else {
+        Err(CodeFault::CutShort)
+    }
 }
 
 pub(crate) fn short_at(bytes: &[u8], at: usize) -> Result<u16, CodeFault>

@@ -18,7 +18,14 @@ fn switch_instr(pc: u32, row: &OpRow, operands: usize, default: i32) -> Instr
     requires { operands ≤ 65535 }
     ensures { result ≡ switch_instr pc row.now (1 + operands) default }
 {
-    Instr { pc, op: row.opcode, wide: false, length: 1 + operands as u32, first: default, second: 0 }
+    Instr {
+        pc,
+        op: row.opcode,
+        wide: false,
+        length: 1 + operands as u32,
+        first: default,
+        second: 0,
+    }
 }
 
 #[tactic(auto, unfolding(crate::specs::Switches::table_switch))]
