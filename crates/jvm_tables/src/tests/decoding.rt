@@ -1,3 +1,5 @@
+ghost use Rattle.jvm_tables.specs.Switching.{IsSwitchAt};
+
 use crate::code::{CodeFault, Instr};
 use crate::decoding::decode;
 use crate::switching::{is_switch, switch_case, switch_len, switch_target};
@@ -54,27 +56,40 @@ static WHOLE: [(&[u8], u8, bool, i32, i32); 20] = [
     (&[0xab, 0, 0, 0, 0, 0, 0, 5, 0, 0, 0, 0], 0xab, false, 5, 0),
 ];
 
+fn check_whole(rt: &impl Abort, bytes: &[u8], wanted: Instr) {
+    assert!(rt; decoded(rt, bytes, 0) == Ok(wanted), "opcode {}", wanted.op);
+    for cut in 1..bytes.len() {
+        let (part, _) = bytes.split_at(cut);
+        assert!(rt;
+            decoded(rt, part, 0) == Err(CodeFault::CutShort),
+            "opcode {} cut at {cut}",
+            wanted.op
+        );
+    }
+}
+
+fn check_all_whole(rt: &impl Abort, rows: &[(&[u8], u8, bool, i32, i32)]) {
+    for (bytes, op, wide, first, second) in rows {
+        assert!(rt; bytes.len() < 100);
+        let length = bytes.len() as u32;
+        check_whole(
+            rt,
+            bytes,
+            Instr {
+                pc: 0,
+                op: *op,
+                wide: *wide,
+                length,
+                first: *first,
+                second: *second,
+            },
+        );
+    }
+}
+
 #[test]
 fn each_form_is_decoded_whole_and_no_part_of_it(rt: HostRuntime) {
-    for (bytes, op, wide, first, second) in WHOLE {
-        let length = bytes.len() as u32;
-        let wanted = Instr {
-            pc: 0,
-            op,
-            wide,
-            length,
-            first,
-            second,
-        };
-        assert!(rt; decoded(&rt, bytes, 0) == Ok(wanted), "opcode {op}");
-        for cut in 1..bytes.len() {
-            let (part, _) = bytes.split_at(cut);
-            assert!(rt;
-                decoded(&rt, part, 0) == Err(CodeFault::CutShort),
-                "opcode {op} cut at {cut}"
-            );
-        }
-    }
+    check_all_whole(&rt, &WHOLE);
 }
 
 static FAULTS: [(&[u8], CodeFault); 27] = [
@@ -132,11 +147,15 @@ static FAULTS: [(&[u8], CodeFault); 27] = [
     ),
 ];
 
+fn check_faults(rt: &impl Abort, rows: &[(&[u8], CodeFault)]) {
+    for (at, (bytes, fault)) in rows.iter().enumerate() {
+        assert!(rt; decoded(rt, bytes, 0) == Err(*fault), "row {at}");
+    }
+}
+
 #[test]
 fn what_is_no_instruction_has_its_fault(rt: HostRuntime) {
-    for (at, (bytes, fault)) in FAULTS.iter().enumerate() {
-        assert!(rt; decoded(&rt, bytes, 0) == Err(*fault), "row {at}");
-    }
+    check_faults(&rt, &FAULTS);
 }
 
 // A tableswitch of 5 to 7 at each alignment: offsets 16, -1 and 18, default 100.
@@ -203,7 +222,34 @@ static LOOKUPS: [(&[u8], u32); 4] = [
     ),
 ];
 
-// Where the switch at pc goes at each key, and its first and last case.
+fn check_targets(rt: &impl Abort, code: &[u8], instr: &Instr, targets: &[(i32, u32)])
+    requires { IsSwitchAt code.now instr.now }
+{
+    for (key, offset) in targets {
+        let target = instr.pc.wrapping_add(*offset);
+        assert_eq!(rt;
+            switch_target(code, instr, *key),
+            target,
+            "key {key} at {}",
+            instr.pc
+        );
+    }
+}
+
+fn check_cases(rt: &impl Abort, code: &[u8], instr: &Instr, cases: &[(i32, u32)])
+    requires { IsSwitchAt code.now instr.now }
+{
+    assert_eq!(rt; switch_len(code, instr), cases.len());
+    for (at, (key, offset)) in cases.iter().enumerate() {
+        assert!(rt; at < switch_len(code, instr));
+        assert!(rt;
+            switch_case(code, instr, at) == (*key, instr.pc.wrapping_add(*offset)),
+            "case {at}"
+        );
+    }
+}
+
+// The switch at pc: its length, where it goes at each key, and its cases, by their offsets.
 fn check_switch(
     rt: &impl Abort,
     code: &[u8],
@@ -213,66 +259,48 @@ fn check_switch(
     cases: &[(i32, u32)],
 ) {
     assert!(rt; (pc as usize) < code.len() && code.len() <= 65535);
-    let Ok(instr) = decode(code, pc) else {
-        assert!(rt; false, "no switch at {pc}");
-        return;
-    };
-    assert_eq!(rt; instr.length, length);
-    assert_eq!(rt; instr.first, 100);
-    assert!(rt; is_switch(&instr));
-    for (key, target) in targets {
-        assert_eq!(rt;
-            switch_target(code, &instr, *key),
-            *target,
-            "key {key} at {pc}"
-        );
-    }
-    assert_eq!(rt; switch_len(code, &instr), cases.len());
-    for (at, case) in cases.iter().enumerate() {
-        assert!(rt; at < switch_len(code, &instr));
-        assert!(rt; switch_case(code, &instr, at) == *case, "case {at} at {pc}");
+    match decode(code, pc) {
+        Err(_) => assert!(rt; false, "no instruction at {pc}"),
+        Ok(instr) => {
+            assert_eq!(rt; instr.length, length);
+            assert_eq!(rt; instr.first, 100);
+            assert!(rt; is_switch(&instr));
+            check_targets(rt, code, &instr, targets);
+            check_cases(rt, code, &instr, cases);
+        }
     }
 }
 
+fn check_all_switches(
+    rt: &impl Abort,
+    rows: &[(&[u8], u32)],
+    targets: &[(i32, u32)],
+    cases: &[(i32, u32)],
+) {
+    let mut pc = 0u32;
+    for (code, length) in rows {
+        check_switch(rt, code, pc, *length, targets, cases);
+        pc = pc.wrapping_add(1);
+    }
+}
+
+const BACK: u32 = u32::MAX;
+
 #[test]
-fn switches_lead_to_their_targets_at_each_alignment(rt: HostRuntime) {
-    for (pc, (code, length)) in TABLES.iter().enumerate() {
-        let pc = pc as u32;
-        let before = pc.wrapping_sub(1);
-        let targets = [
-            (5, pc + 16),
-            (6, before),
-            (7, pc + 18),
-            (4, pc + 100),
-            (8, pc + 100),
-            (i32::MIN, pc + 100),
-        ];
-        check_switch(
-            &rt,
-            code,
-            pc,
-            *length,
-            &targets,
-            &[(5, pc + 16), (6, before), (7, pc + 18)],
-        );
-    }
-    for (pc, (code, length)) in LOOKUPS.iter().enumerate() {
-        let pc = pc as u32;
-        let before = pc.wrapping_sub(1);
-        let targets = [
-            (-3, pc + 16),
-            (6, before),
-            (0, pc + 100),
-            (7, pc + 100),
-            (i32::MAX, pc + 100),
-        ];
-        check_switch(
-            &rt,
-            code,
-            pc,
-            *length,
-            &targets,
-            &[(-3, pc + 16), (6, before)],
-        );
-    }
+fn tableswitch_leads_to_its_targets_at_each_alignment(rt: HostRuntime) {
+    let targets = [
+        (5, 16),
+        (6, BACK),
+        (7, 18),
+        (4, 100),
+        (8, 100),
+        (i32::MIN, 100),
+    ];
+    check_all_switches(&rt, &TABLES, &targets, &[(5, 16), (6, BACK), (7, 18)]);
+}
+
+#[test]
+fn lookupswitch_leads_to_its_targets_at_each_alignment(rt: HostRuntime) {
+    let targets = [(-3, 16), (6, BACK), (0, 100), (7, 100), (i32::MAX, 100)];
+    check_all_switches(&rt, &LOOKUPS, &targets, &[(-3, 16), (6, BACK)]);
 }

@@ -474,49 +474,56 @@ fn check_flags(rt: &impl Abort, row: &ExternalRow, sort: Sort) {
     assert_eq!(rt; row.is_extensible, is_extensible, "{}", row.class);
 }
 
-fn check_names(
-    rt: &impl Abort,
-    row: &ExternalRow,
-    super_class: &str,
-    interface: &str,
-    name: &str,
-    descriptor: &str,
-) {
+fn is_only(interfaces: &[&str], interface: &str) -> bool {
+    match interfaces {
+        [] => interface.is_empty(),
+        [first] => *first == interface,
+        _ => false,
+    }
+}
+
+fn check_names(rt: &impl Abort, row: &ExternalRow, super_class: &str, interface: &str) {
     assert!(rt;
         row.super_class.unwrap_or("") == super_class,
         "{}",
         row.class
     );
-    let interfaces: &[&str] = if interface.is_empty() {
-        &[]
-    } else {
-        &[interface]
-    };
-    assert!(rt; row.interfaces == interfaces, "{}", row.class);
+    assert!(rt; is_only(row.interfaces, interface), "{}", row.class);
+    let same = external_at(row.at).is_some_and(|other| other.class == row.class);
+    assert!(rt; same, "{} at {}", row.class, row.at);
+}
+
+fn has_method(row: &ExternalRow, name: &str, descriptor: &str) -> bool {
     match row.abstract_method {
-        None => assert!(rt; name.is_empty(), "{}", row.class),
-        Some(method) => {
-            assert!(rt;
-                method.class == row.class && method.name == name && method.descriptor == descriptor
-            );
+        None => name.is_empty(),
+        Some(method) => method.class == row.class
+            && method.name == name
+            && method.descriptor == descriptor,
+    }
+}
+
+fn check_rows(rt: &impl Abort, rows: &[(&str, &str, &str, Sort, &str, &str)]) {
+    for (class, super_class, interface, sort, name, descriptor) in rows {
+        match external(class.as_bytes()) {
+            None => assert!(rt; false, "{class}"),
+            Some(row) => {
+                assert!(rt; row.class == *class);
+                check_flags(rt, &row, *sort);
+                check_names(rt, &row, super_class, interface);
+                assert!(rt; has_method(&row, name, descriptor), "{class}");
+            }
         }
     }
 }
 
 #[test]
 fn every_external_class_has_its_row(rt: HostRuntime) {
-    for (class, super_class, interface, sort, name, descriptor) in CLASSES {
-        let Some(row) = external(class.as_bytes()) else {
-            assert!(rt; false, "{class}");
-            continue;
-        };
-        assert!(rt; row.class == class);
-        check_flags(&rt, &row, sort);
-        check_names(&rt, &row, super_class, interface, name, descriptor);
-        let same = external_at(row.at).is_some_and(|other| other.class == class);
-        assert!(rt; same, "{class} at {}", row.at);
-    }
+    check_rows(&rt, &CLASSES);
     assert_eq!(rt; EXTERNALS.len(), CLASSES.len());
-    assert!(rt; external(b"java/lang/Objects").is_none() && external(b"").is_none());
+}
+
+#[test]
+fn no_other_class_has_a_row(rt: HostRuntime) {
+    assert!(rt; external(b"java/lang/Class").is_none() && external(b"").is_none());
     assert!(rt; external_at(61).is_none());
 }

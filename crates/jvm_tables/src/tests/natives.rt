@@ -5,7 +5,7 @@ use std::process::Abort;
 type Method = (&'static str, &'static str, bool, &'static str, &'static str);
 
 // Classes, and the natives of each of them.
-static METHODS: [(&[&str], &[Method]); 20] = [
+static OBJECTS_AND_TEXTS: [(&[&str], &[Method]); 4] = [
     (
         &["java/lang/Object"],
         &[
@@ -96,6 +96,9 @@ static METHODS: [(&[&str], &[Method]); 20] = [
             ("toString", "()Ljava/lang/String;", false, "", ""),
         ],
     ),
+];
+
+static NUMBERS_AND_HELPERS: [(&[&str], &[Method]); 6] = [
     (
         &["java/lang/Long"],
         &[
@@ -166,6 +169,9 @@ static METHODS: [(&[&str], &[Method]); 20] = [
             ("<init>", "(I)V", false, "", ""),
         ],
     ),
+];
+
+static COLLECTIONS: [(&[&str], &[Method]); 4] = [
     (
         &[
             "java/util/List",
@@ -351,6 +357,9 @@ static METHODS: [(&[&str], &[Method]); 20] = [
             ("toString", "()Ljava/lang/String;", false, "", ""),
         ],
     ),
+];
+
+static THROWABLES_AND_TASKS: [(&[&str], &[Method]); 3] = [
     (
         &["mill/Lists"],
         &[
@@ -441,33 +450,43 @@ fn calls_back(row: &NativeRow, class: &str, name: &str) -> bool {
 
 fn check_native(rt: &impl Abort, class: &str, method: &Method) {
     let (name, descriptor, is_static, callback_class, callback) = *method;
-    let Some(row) = native_row(class.as_bytes(), name.as_bytes(), descriptor.as_bytes()) else {
-        assert!(rt; false, "{class}.{name}{descriptor}");
-        return;
-    };
-    assert!(rt; row.name == name && row.descriptor == descriptor);
-    assert_eq!(rt; row.is_static, is_static, "{class}.{name}{descriptor}");
-    assert!(rt;
-        calls_back(&row, callback_class, callback),
-        "{class}.{name}{descriptor}"
-    );
-    let same = native_at(row.at).is_some_and(|other| other.name == name
-        && other.descriptor == descriptor);
-    assert!(rt; same);
+    match native_row(class.as_bytes(), name.as_bytes(), descriptor.as_bytes()) {
+        None => assert!(rt; false, "{class}.{name}{descriptor}"),
+        Some(row) => {
+            assert!(rt; row.name == name && row.descriptor == descriptor);
+            assert_eq!(rt; row.is_static, is_static, "{class}.{name}{descriptor}");
+            assert!(rt;
+                calls_back(&row, callback_class, callback),
+                "{class}.{name}{descriptor}"
+            );
+            let same = native_at(row.at).is_some_and(|other| other.name == name
+                && other.descriptor == descriptor);
+            assert!(rt; same);
+        }
+    }
+}
+
+fn check_class(rt: &impl Abort, class: &str, methods: &[Method]) {
+    for method in methods {
+        check_native(rt, class, method);
+    }
+}
+
+fn check_all(rt: &impl Abort, rows: &[(&[&str], &[Method])]) {
+    for (classes, methods) in rows {
+        for class in *classes {
+            check_class(rt, class, methods);
+        }
+    }
 }
 
 #[test]
 fn every_native_has_its_row(rt: HostRuntime) {
-    let mut rows = 0usize;
-    for (classes, methods) in METHODS {
-        for class in classes {
-            for method in methods {
-                check_native(&rt, class, method);
-            }
-        }
-        rows = rows.wrapping_add(methods.len());
-    }
-    assert_eq!(rt; rows, NATIVES.len());
+    check_all(&rt, &OBJECTS_AND_TEXTS);
+    check_all(&rt, &NUMBERS_AND_HELPERS);
+    check_all(&rt, &COLLECTIONS);
+    check_all(&rt, &THROWABLES_AND_TASKS);
+    assert_eq!(rt; NATIVES.len(), 118);
     assert!(rt; native_at(118).is_none());
 }
 
@@ -482,14 +501,16 @@ static OTHERS: [(&str, &str, &str); 7] = [
     ("[I", "toString", "()Ljava/lang/String;"),
 ];
 
+fn check_none(rt: &impl Abort, rows: &[(&str, &str, &str)]) {
+    for (class, name, descriptor) in rows {
+        let row = native_row(class.as_bytes(), name.as_bytes(), descriptor.as_bytes());
+        assert!(rt; row.is_none(), "{class}.{name}");
+    }
+}
+
 #[test]
 fn other_methods_have_no_row(rt: HostRuntime) {
-    for (class, name, descriptor) in OTHERS {
-        assert!(rt;
-            native_row(class.as_bytes(), name.as_bytes(), descriptor.as_bytes()).is_none(),
-            "{class}.{name}"
-        );
-    }
+    check_none(&rt, &OTHERS);
 }
 
 #[test]
