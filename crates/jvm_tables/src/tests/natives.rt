@@ -5,7 +5,7 @@ use std::process::Abort;
 type Method = (&'static str, &'static str, bool, &'static str, &'static str);
 
 // Classes, and the natives of each of them.
-static OBJECTS_AND_TEXTS: [(&[&str], &[Method]); 4] = [
+static OBJECTS_AND_TEXTS: [(&[&str], &[Method]); 5] = [
     (
         &["java/lang/Object"],
         &[
@@ -359,7 +359,7 @@ static COLLECTIONS: [(&[&str], &[Method]); 4] = [
     ),
 ];
 
-static THROWABLES_AND_TASKS: [(&[&str], &[Method]); 3] = [
+static THROWABLES_AND_TASKS: [(&[&str], &[Method]); 5] = [
     (
         &["mill/Lists"],
         &[
@@ -472,22 +472,34 @@ fn check_class(rt: &impl Abort, class: &str, methods: &[Method]) {
     }
 }
 
-fn check_all(rt: &impl Abort, rows: &[(&[&str], &[Method])]) {
+// Checks each class of each row, and counts the methods of the rows.
+fn check_all(rt: &impl Abort, rows: &[(&[&str], &[Method])]) -> usize {
+    let mut count = 0usize;
     for (classes, methods) in rows {
         for class in *classes {
             check_class(rt, class, methods);
         }
+        count = count.wrapping_add(methods.len());
     }
+    count
 }
 
 #[test]
 fn every_native_has_its_row(rt: HostRuntime) {
-    check_all(&rt, &OBJECTS_AND_TEXTS);
-    check_all(&rt, &NUMBERS_AND_HELPERS);
-    check_all(&rt, &COLLECTIONS);
-    check_all(&rt, &THROWABLES_AND_TASKS);
-    assert_eq!(rt; NATIVES.len(), 118);
-    assert!(rt; native_at(118).is_none());
+    let objects = check_all(&rt, &OBJECTS_AND_TEXTS);
+    let numbers = check_all(&rt, &NUMBERS_AND_HELPERS);
+    let collections = check_all(&rt, &COLLECTIONS);
+    let others = check_all(&rt, &THROWABLES_AND_TASKS);
+    let count = objects
+        .wrapping_add(numbers)
+        .wrapping_add(collections)
+        .wrapping_add(others);
+    assert_eq!(rt; count, NATIVES.len());
+}
+
+#[test]
+fn the_table_of_natives_ends(rt: HostRuntime) {
+    assert!(rt; native_at(117).is_some() && native_at(118).is_none());
 }
 
 // Class, name and descriptor of methods that are no natives.
