@@ -448,20 +448,20 @@ fn calls_back(row: &NativeRow, class: &str, name: &str) -> bool {
     }
 }
 
+// Whether the row is the one at its place.
+fn is_at_its_place(row: &NativeRow) -> bool {
+    native_at(row.at).is_some_and(|at| at.name == row.name && at.descriptor == row.descriptor)
+}
+
 fn check_native(rt: &impl Abort, class: &str, method: &Method) {
     let (name, descriptor, is_static, callback_class, callback) = *method;
     match native_row(class.as_bytes(), name.as_bytes(), descriptor.as_bytes()) {
-        None => assert!(rt; false, "{class}.{name}{descriptor}"),
+        None => assert!(rt; false, "{class}"),
         Some(row) => {
             assert!(rt; row.name == name && row.descriptor == descriptor);
-            assert_eq!(rt; row.is_static, is_static, "{class}.{name}{descriptor}");
-            assert!(rt;
-                calls_back(&row, callback_class, callback),
-                "{class}.{name}{descriptor}"
-            );
-            let same = native_at(row.at).is_some_and(|other| other.name == name
-                && other.descriptor == descriptor);
-            assert!(rt; same);
+            assert_eq!(rt; row.is_static, is_static);
+            assert!(rt; calls_back(&row, callback_class, callback));
+            assert!(rt; is_at_its_place(&row));
         }
     }
 }
