@@ -30,44 +30,37 @@ abbrev pub method_named : List ℕ → Option (List ℕ × List ℕ) → Option 
 method_named class None = None
 method_named class (Some method) = Some (record { class = class; name = method.0; descriptor = method.1 })
 
--- the text that a borrow of one leads to
+-- what a row of the table states, where its texts and lists of texts are given by `text` and `texts`
+abbrev pub stated_by : {T L : Type 0} → (T → List ℕ) → (L → List T) → T × Option T × L × Bool × Bool × Bool × Family × Option (T × T) → External
+stated_by text texts facts =
+    record {
+      class = text facts.0;
+      super_class = option_map text facts.1;
+      interfaces = map text (texts facts.2);
+      is_interface = facts.3;
+      is_abstract = facts.4;
+      is_extensible = facts.5;
+      family = facts.6;
+      abstract_method = method_named (text facts.0) (option_map (λ m. (text m.0, text m.1)) facts.7)
+    }
+
+-- the table
+unfoldable pub externals : List External
+externals = map (λ facts. stated_by (λ t. t.now) (λ l. l.now) facts) EXTERNALS
+
+-- a text in memory
 abbrev pub Text : Type 0
 Text = Bor (List ℕ)
 
 abbrev pub Facts : Type 0
 Facts = Text × Option Text × Bor (List Text) × Bool × Bool × Bool × Family × Option (Text × Text)
 
--- what a row of the constant states
+-- what rows in memory state
 abbrev pub stated : Facts → External
-stated facts =
-    record {
-      class = facts.0.now;
-      super_class = option_map (λ t. t.now) facts.1;
-      interfaces = map (λ t. t.now) facts.2.now;
-      is_interface = facts.3;
-      is_abstract = facts.4;
-      is_extensible = facts.5;
-      family = facts.6;
-      abstract_method = method_named facts.0.now (option_map (λ m. (m.0.now, m.1.now)) facts.7);
-    }
+stated facts = stated_by (λ t. t.now) (λ l. l.now) facts
 
 abbrev pub all_stated : List Facts → List External
 all_stated rows = map stated rows
-
--- the table
-unfoldable pub externals : List External
-externals =
-    map (λ facts.
-    record {
-      class = facts.0.now;
-      super_class = option_map (λ t. t.now) facts.1;
-      interfaces = map (λ t. t.now) facts.2.now;
-      is_interface = facts.3;
-      is_abstract = facts.4;
-      is_extensible = facts.5;
-      family = facts.6;
-      abstract_method = method_named facts.0.now (option_map (λ m. (m.0.now, m.1.now)) facts.7);
-    }) EXTERNALS
 
 -- the first row of that name, and its place in a table that begins at a place
 abbrev pub external_from : ℕ → List ℕ → List External → Option (ℕ × External)

@@ -17,36 +17,31 @@ pub record Native : Type 0 where
   pub is_static : Bool
   pub calls_back : Option Callback
 
-abbrev pub Facts : Type 0
-Facts = Text × Family × Text × Text × Bool × Option Callback
-
--- what a row of the constant states
-abbrev pub stated : Facts → Native
-stated facts =
+-- what a row of the table states, where its texts are given by `text`
+abbrev pub stated_by : {T : Type 0} → (T → List ℕ) → T × Family × T × T × Bool × Option Callback → Native
+stated_by text facts =
     record {
-      class = facts.0.now;
+      class = text facts.0;
       family = facts.1;
-      name = facts.2.now;
-      descriptor = facts.3.now;
+      name = text facts.2;
+      descriptor = text facts.3;
       is_static = facts.4;
-      calls_back = facts.5;
+      calls_back = facts.5
     }
-
-abbrev pub all_stated : List Facts → List Native
-all_stated rows = map stated rows
 
 -- the table
 unfoldable pub natives : List Native
-natives =
-    map (λ facts.
-    record {
-      class = facts.0.now;
-      family = facts.1;
-      name = facts.2.now;
-      descriptor = facts.3.now;
-      is_static = facts.4;
-      calls_back = facts.5;
-    }) NATIVES
+natives = map (λ facts. stated_by (λ t. t.now) facts) NATIVES
+
+abbrev pub Facts : Type 0
+Facts = Text × Family × Text × Text × Bool × Option Callback
+
+-- what rows in memory state
+abbrev pub stated : Facts → Native
+stated facts = stated_by (λ t. t.now) facts
+
+abbrev pub all_stated : List Facts → List Native
+all_stated rows = map stated rows
 
 -- the name of an array's class begins with a bracket, whose code is 91
 abbrev pub is_array : List ℕ → Bool
