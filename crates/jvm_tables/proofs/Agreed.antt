@@ -1,9 +1,9 @@
 -- What the agreement of the rows with their forms gives for the row of an opcode.
-use Rattle.std.proofs.Common.{◌≡◌, ℕ, Bool, true, false, not, ◌&&◌, ◌||◌, cond, Option, Some, None, refl, sym, ◌∙◌, ap, arith, eqb, ◌⊎◌, inl, inr}
+use Rattle.std.proofs.Common.{◌≡◌, ℕ, Bool, true, false, not, ◌&&◌, ◌||◌, cond, Some, refl, sym, ◌∙◌, ap, ◌⊎◌, inl, inr}
 use Rattle.std.proofs.lemmas.Bool.{eqb-true}
 use Rattle.jvm_tables.specs.declared.instruction.OpRow.{OpRow}
 use Rattle.jvm_tables.specs.declared.opcodes.TheConstants.{OPCODES}
-use Rattle.jvm_tables.specs.Agreement.{agrees, float_agrees, locals_agree, stack_agrees, flow_agrees, length_of, names_local, increments, is_bare, names_constant, uses_constant, same, are_float, touches_none}
+use Rattle.jvm_tables.specs.Agreement.{agrees, float_agrees, locals_agree, stack_agrees, flow_agrees, length_of, names_local, increments, same, are_float, touches_none}
 use Rattle.jvm_tables.specs.Opcodes.{row_of, every}
 use Rattle.jvm_tables.proofs.Rows.{both, row_opcode, row_passes}
 

@@ -1,9 +1,7 @@
 -- What is known of an instruction that was decoded.
-use Rattle.std.proofs.Common.{◌≡◌, ◌≢◌, ℕ, suc, zero, ◌+◌, ◌-◌, ◌*◌, ◌<◌, ◌≤◌, List, [], ◌∷◌, Bool, true, false, not, ◌&&◌, ◌||◌, cond, Option, Some, None, Result, Ok, Err, refl, sym, ◌∙◌, ap, subst, arith, length, get_or, drop, nat_lt, nat_le, eqb, ℤ, pos, int_lt, unsigned_abs, ◌-ℤ◌, ◌⊎◌, inl, inr, IsSomeAnd}
-use Rattle.std.proofs.lemmas.Bool.{ltb-true, eqb-true}
+use Rattle.std.proofs.Common.{◌≡◌, ◌≢◌, ℕ, ◌+◌, ◌<◌, ◌≤◌, List, true, false, ◌&&◌, cond, Option, Some, None, Ok, Err, refl, sym, ◌∙◌, ap, arith, length, get_or, drop, nat_lt, nat_le, eqb, ℤ, pos, int_lt, unsigned_abs, ◌⊎◌, inl, inr, IsSomeAnd}
 use Rattle.std.proofs.lemmas.Grind.{get_or_after_one}
 use Rattle.std.proofs.lemmas.List.{length-drop}
-use Rattle.jvm_tables.specs.declared.code.CodeFault.{CodeFault}
 use Rattle.jvm_tables.specs.declared.code.CodeFault.TheVariants.{BadOperand, CutShort, UnknownOp, FloatOp}
 use Rattle.jvm_tables.specs.declared.code.Instr.{Instr}
 use Rattle.jvm_tables.specs.declared.instruction.Form.{Form}
@@ -11,7 +9,7 @@ use Rattle.jvm_tables.specs.declared.instruction.Form.TheVariants as forms
 use Rattle.jvm_tables.specs.declared.instruction.OpRow.{OpRow}
 use Rattle.jvm_tables.specs.Agreement.{length_of, names_local, increments, is_switch}
 use Rattle.jvm_tables.specs.Decoding.{plain, by_form, interface_call, call_site, element_type, dimensions, increment, wide_local, wide_increment, wide_form, widened, wide, known, decoding}
-use Rattle.jvm_tables.specs.Opcodes.{find_row, row_of, every}
+use Rattle.jvm_tables.specs.Opcodes.{row_of}
 use Rattle.jvm_tables.specs.Switches.{◌>>=◌, byte_at, short_at, word, word_at, padding, keys_rise, lookup_pairs, table_size, lookup_size, table_switch, lookup_switch, lookup_switch_pairs, switch_instr, IsTable, IsLookup}
 use Rattle.jvm_tables.specs.Switching.{form_of}
 use Rattle.jvm_tables.proofs.Agreed.{opcode_of, length_of_row, wide_has_local, wide_is_plain}

@@ -1,5 +1,5 @@
 -- Where the keys of a switch lead.
-use Rattle.std.proofs.Common.{◌≡◌, ◌≢◌, ℕ, suc, zero, ◌+◌, List, [], ◌∷◌, ◌++◌, Bool, true, false, ◌&&◌, cond, refl, sym, ◌∙◌, ap, arith, ℤ, pos, ◌+ℤ◌, ◌<ℤ◌, int_lt, int_eq, drop, Ok, unsigned_abs, ◌-ℤ◌}
+use Rattle.std.proofs.Common.{◌≡◌, ◌≢◌, ℕ, suc, zero, ◌+◌, List, [], ◌∷◌, ◌++◌, true, refl, sym, ◌∙◌, ap, arith, ℤ, pos, ◌+ℤ◌, ◌<ℤ◌, int_lt, drop, Ok, unsigned_abs, ◌-ℤ◌}
 use Rattle.std.specs.List.{AllByRecursion}
 use Rattle.std.proofs.lemmas.Int.{ints}
 use Rattle.jvm_tables.specs.declared.code.Instr.{Instr}
@@ -11,7 +11,7 @@ use Rattle.jvm_tables.specs.Opcodes.{row_of}
 use Rattle.jvm_tables.specs.Switches.{word, padding, chosen, keys_rise, table_pairs, table_switch_pairs, pairs_of, target}
 use Rattle.jvm_tables.specs.Switching.{IsSwitchAt, form_of, pairs_at, target_at}
 use Rattle.jvm_tables.proofs.Cases.{equal, differ}
-use Rattle.jvm_tables.proofs.Decoded.{table_there, lookup_there}
+use Rattle.jvm_tables.proofs.Decoded.{lookup_there}
 use Rattle.jvm_tables.proofs.Rows.{both}
 
 lower_still : (a b c : ℤ) → int_lt a b ≡ true → b <ℤ c → a <ℤ c

@@ -1,5 +1,5 @@
 -- The pairs of a switch, one after another.
-use Rattle.std.proofs.Common.{◌≡◌, ℕ, suc, zero, ◌+◌, ◌-◌, ◌*◌, ◌<◌, ◌≤◌, List, Bool, true, false, ◌&&◌, refl, sym, ◌∙◌, ap, arith, ℤ, ◌<ℤ◌, int_lt}
+use Rattle.std.proofs.Common.{◌≡◌, ℕ, suc, zero, ◌+◌, ◌-◌, ◌*◌, ◌<◌, ◌≤◌, List, Bool, true, false, ◌&&◌, refl, sym, ◌∙◌, ap, arith, int_lt}
 use Rattle.jvm_tables.specs.Switches.{word, keys_rise, lookup_pairs}
 
 first_rises : (bytes : List ℕ) (at n : ℕ) → 2 ≤ n → keys_rise (lookup_pairs n at bytes) ≡ (int_lt (word bytes at) (word bytes (at + 8)) && keys_rise (lookup_pairs (n - 1) (at + 8) bytes))

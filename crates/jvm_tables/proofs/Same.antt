@@ -1,5 +1,5 @@
 -- An instruction is decoded alike from bytes that begin with its own.
-use Rattle.std.proofs.Common.{◌≡◌, ◌≢◌, ℕ, suc, zero, ◌+◌, ◌-◌, ◌*◌, ◌<◌, ◌≤◌, List, [], ◌∷◌, ◌++◌, Bool, true, false, not, ◌&&◌, cond, Option, Some, None, Result, Ok, Err, refl, sym, ◌∙◌, ap, arith, length, get_or, drop, take, nat_lt, nat_le, eqb, ℤ, pos, int_lt, unsigned_abs, ◌-ℤ◌, length-append, ◌⊎◌, inl, inr, IfOk}
+use Rattle.std.proofs.Common.{◌≡◌, ◌≢◌, ℕ, suc, zero, ◌+◌, ◌-◌, ◌*◌, ◌<◌, ◌≤◌, List, ◌++◌, true, false, Some, Result, Ok, Err, refl, sym, ◌∙◌, ap, arith, length, drop, take, nat_lt, pos, int_lt, unsigned_abs, length-append, inl, inr, IfOk}
 use Rattle.std.proofs.lemmas.Bool.{le-ltb, lt-ltb}
 use Rattle.std.proofs.lemmas.List.{get_or-take, get_or_append_left, length-drop, length-take}
 use Rattle.jvm_tables.specs.declared.code.CodeFault.{CodeFault}
@@ -8,12 +8,12 @@ use Rattle.jvm_tables.specs.declared.instruction.Form.{Form}
 use Rattle.jvm_tables.specs.declared.instruction.Form.TheVariants as forms
 use Rattle.jvm_tables.specs.declared.instruction.OpRow.{OpRow}
 use Rattle.jvm_tables.specs.Agreement.{length_of}
-use Rattle.jvm_tables.specs.Decoding.{plain, by_form, interface_call, call_site, element_type, dimensions, increment, wide_local, wide_increment, wide_form, widened, wide, known, decoding}
+use Rattle.jvm_tables.specs.Decoding.{by_form, interface_call, call_site, element_type, dimensions, increment, wide_local, wide_increment, wide_form, widened, wide, known, decoding}
 use Rattle.jvm_tables.specs.Opcodes.{row_of}
-use Rattle.jvm_tables.specs.Switches.{◌>>=◌, byte_at, short_at, word, word_at, padding, keys_rise, lookup_pairs, table_size, lookup_size, table_switch, lookup_switch, lookup_switch_pairs, switch_instr, IsTable, IsLookup}
+use Rattle.jvm_tables.specs.Switches.{◌>>=◌, byte_at, short_at, word, word_at, padding, lookup_pairs, table_size, lookup_size, table_switch, lookup_switch, lookup_switch_pairs, switch_instr, IsTable, IsLookup}
 use Rattle.jvm_tables.proofs.Agreed.{length_of_row}
-use Rattle.jvm_tables.proofs.Decoded.{Decoded, decoded, sure_known, Narrow, Widened, Tabled, Looked, sure_table, sure_lookup, narrow_form, wide_or_narrow}
-use Rattle.jvm_tables.proofs.Readings.{Sure, sure_ok, sure_bind, sure_short, Keeps, keeps_bind, Prefix, prefix_less, prefix_rest, sure_word, keeps_byte, keeps_short, keeps_word, same_word}
+use Rattle.jvm_tables.proofs.Decoded.{Decoded, decoded, sure_known, Narrow, Tabled, Looked, sure_table, sure_lookup, narrow_form, wide_or_narrow}
+use Rattle.jvm_tables.proofs.Readings.{Sure, sure_ok, sure_bind, sure_short, Keeps, keeps_bind, Prefix, prefix_less, prefix_rest, keeps_byte, keeps_short, keeps_word, same_word}
 
 keeps_same : {A : Type 0} (r : Result A CodeFault) → Keeps r r
 keeps_same r x e = e

@@ -1,5 +1,5 @@
 -- When the facts of a row agree with its operand form (JVMS 6.5).
-use Rattle.std.specs.Prelude.{ℕ, ◌==◌, Bool, true, false, not, ◌&&◌, ◌||◌, if◌then◌else◌, Option, Some, None, is_some, is_none, ℤ, pos}
+use Rattle.std.specs.Prelude.{ℕ, ◌==◌, Bool, true, false, not, ◌&&◌, ◌||◌, if◌then◌else◌, Option, Some, None, is_none, pos}
 use Rattle.std.specs.Ordering.{int_eq}
 use Rattle.jvm_tables.specs.declared.instruction.ConstantUse.{ConstantUse}
 use Rattle.jvm_tables.specs.declared.instruction.ConstantUse.TheVariants as constants

@@ -1,5 +1,5 @@
 -- The instruction that begins at a place of the code, by the row of its opcode (JVMS 6.5).
-use Rattle.std.specs.Prelude.{ℕ, ◌+◌, Bool, true, false, ◌&&◌, ◌==◌, nat_lt, if◌then◌else◌, List, [], ◌∷◌, drop, Option, Some, None, Result, Ok, Err, ℤ, pos, nat_le}
+use Rattle.std.specs.Prelude.{ℕ, true, false, ◌&&◌, ◌==◌, if◌then◌else◌, List, drop, Option, Some, None, Result, Ok, Err, ℤ, pos, nat_le}
 use Rattle.std.specs.Int.{w8, w16, cast_signed}
 use Rattle.jvm_tables.specs.declared.code.CodeFault.{CodeFault}
 use Rattle.jvm_tables.specs.declared.code.CodeFault.TheVariants.{FloatOp, UnknownOp, BadOperand}

@@ -1,5 +1,5 @@
 -- The table of external classes. Names are lists of bytes, with slashes.
-use Rattle.std.specs.Prelude.{ℕ, ◌+◌, Bool, true, false, ◌&&◌, if◌then◌else◌, List, [], ◌∷◌, map, Option, Some, None, option_map}
+use Rattle.std.specs.Prelude.{ℕ, ◌+◌, Bool, true, ◌&&◌, if◌then◌else◌, List, [], ◌∷◌, map, Option, Some, None, option_map}
 use Rattle.std.specs.Borrow.{Bor}
 use Rattle.std.specs.Ordering.{is_lt, nat_cmp}
 use Rattle.std.specs.Str.{bytes_eq}
@@ -41,7 +41,7 @@ stated_by text texts facts =
       is_abstract = facts.4;
       is_extensible = facts.5;
       family = facts.6;
-      abstract_method = method_named (text facts.0) (option_map (λ m. (text m.0, text m.1)) facts.7)
+      abstract_method = method_named (text facts.0) (option_map (λ m. (text m.0, text m.1)) facts.7);
     }
 
 -- the table

@@ -26,7 +26,7 @@ stated_by text facts =
       name = text facts.2;
       descriptor = text facts.3;
       is_static = facts.4;
-      calls_back = facts.5
+      calls_back = facts.5;
     }
 
 -- the table

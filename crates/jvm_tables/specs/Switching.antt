@@ -1,5 +1,5 @@
 -- Where a decoded switch goes (JVMS 6.5, tableswitch and lookupswitch).
-use Rattle.std.specs.Prelude.{◌≡◌, ℕ, ◌<◌, ◌≤◌, Bool, List, length, drop, map, Option, Some, None, Ok, ℤ, IsTrue}
+use Rattle.std.specs.Prelude.{◌≡◌, ℕ, ◌≤◌, List, length, drop, map, Option, Some, None, Ok, ℤ, IsTrue}
 use Rattle.jvm_tables.specs.declared.code.Instr.{Instr}
 use Rattle.jvm_tables.specs.declared.instruction.Form.{Form}
 use Rattle.jvm_tables.specs.declared.instruction.Form.TheVariants.{Bare}

@@ -1,5 +1,5 @@
 -- What an instruction may throw, by the names of the classes.
-use Rattle.std.specs.Prelude.{ℕ, Bool, true, false, ◌&&◌, List, [], ◌∷◌, Option, Some, None, codes}
+use Rattle.std.specs.Prelude.{ℕ, Bool, true, ◌&&◌, List, [], ◌∷◌, Option, Some, None, codes}
 use Rattle.jvm_tables.specs.declared.instruction.Throws.{Throws}
 use Rattle.jvm_tables.specs.declared.instruction.Throws.TheVariants as throws
 use Rattle.jvm_tables.specs.Externals.{external_of}

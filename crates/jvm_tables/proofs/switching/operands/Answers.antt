@@ -1,5 +1,5 @@
 -- Where an instruction is decoded, there is a byte.
-use Rattle.std.proofs.Common.{◌≡◌, ◌<◌, arith, drop, length}
+use Rattle.std.proofs.Common.{◌<◌, arith, drop, length}
 use Rattle.std.proofs.lemmas.List.{length-drop}
 use Rattle.jvm_tables.proofs.Decoded.{byte_there, table_there, lookup_there}
 use Rattle.jvm_tables.proofs.switching.operands.Goals as goal

@@ -1,5 +1,5 @@
 -- Outside the bounds the default is taken.
-use Rattle.std.proofs.Common.{◌≡◌, ◌+◌, ◌∙◌, sym, ap, arith, w32, not, int_lt, ◌&&◌, false, rules, FitsSigned}
+use Rattle.std.proofs.Common.{◌+◌, ◌∙◌, sym, arith, w32, rules, FitsSigned}
 use Rattle.std.proofs.lemmas.Int.{ints, to_z-of_z}
 use Rattle.jvm_tables.proofs.Cases.{table_default}
 use Rattle.jvm_tables.specs.Switches.{table_switch_pairs, word, padding}
