@@ -57,625 +57,76 @@ pub type ExternalFacts = (
     Option<(&'static str, &'static str)>,
 );
 
-macro_rules! rows {
-    ($($row:expr,)*) => { [$($row,)*] };
+// The facts in the order of `ExternalFacts`.
+macro_rules! row {
+    ($class:literal: $super_class:expr, [$($interface:literal)?], $is_interface:literal, $is_abstract:literal, $is_extensible:literal, $family:ident, $method:expr) => {
+        ($class, $super_class, &[$($interface)?], $is_interface, $is_abstract, $is_extensible, Family::$family, $method)
+    };
 }
 
 /// The external classes, in the order of the bytes of their names.
-pub static EXTERNALS: [ExternalFacts; 61] = rows![
-    (
-        "java/io/IOException",
-        Some("java/lang/Exception"),
-        &[],
-        false,
-        false,
-        true,
-        Family::Throwables,
-        None
-    ),
-    (
-        "java/lang/AbstractMethodError",
-        Some("java/lang/IncompatibleClassChangeError"),
-        &[],
-        false,
-        false,
-        true,
-        Family::Throwables,
-        None
-    ),
-    (
-        "java/lang/ArithmeticException",
-        Some("java/lang/RuntimeException"),
-        &[],
-        false,
-        false,
-        true,
-        Family::Throwables,
-        None
-    ),
-    (
-        "java/lang/ArrayIndexOutOfBoundsException",
-        Some("java/lang/IndexOutOfBoundsException"),
-        &[],
-        false,
-        false,
-        true,
-        Family::Throwables,
-        None
-    ),
-    (
-        "java/lang/ArrayStoreException",
-        Some("java/lang/RuntimeException"),
-        &[],
-        false,
-        false,
-        true,
-        Family::Throwables,
-        None
-    ),
-    (
-        "java/lang/AutoCloseable",
-        Some("java/lang/Object"),
-        &[],
-        true,
-        true,
-        false,
-        Family::Alone,
-        Some(("close", "()V"))
-    ),
-    (
-        "java/lang/Boolean",
-        Some("java/lang/Object"),
-        &[],
-        false,
-        false,
-        false,
-        Family::Alone,
-        None
-    ),
-    (
-        "java/lang/CharSequence",
-        Some("java/lang/Object"),
-        &[],
-        true,
-        true,
-        false,
-        Family::Alone,
-        None
-    ),
-    (
-        "java/lang/ClassCastException",
-        Some("java/lang/RuntimeException"),
-        &[],
-        false,
-        false,
-        true,
-        Family::Throwables,
-        None
-    ),
-    (
-        "java/lang/Comparable",
-        Some("java/lang/Object"),
-        &[],
-        true,
-        true,
-        false,
-        Family::Alone,
-        Some(("compareTo", "(Ljava/lang/Object;)I"))
-    ),
-    (
-        "java/lang/Enum",
-        Some("java/lang/Object"),
-        &[],
-        false,
-        true,
-        true,
-        Family::Alone,
-        None
-    ),
-    (
-        "java/lang/Error",
-        Some("java/lang/Throwable"),
-        &[],
-        false,
-        false,
-        true,
-        Family::Throwables,
-        None
-    ),
-    (
-        "java/lang/Exception",
-        Some("java/lang/Throwable"),
-        &[],
-        false,
-        false,
-        true,
-        Family::Throwables,
-        None
-    ),
-    (
-        "java/lang/ExceptionInInitializerError",
-        Some("java/lang/LinkageError"),
-        &[],
-        false,
-        false,
-        true,
-        Family::Throwables,
-        None
-    ),
-    (
-        "java/lang/IllegalArgumentException",
-        Some("java/lang/RuntimeException"),
-        &[],
-        false,
-        false,
-        true,
-        Family::Throwables,
-        None
-    ),
-    (
-        "java/lang/IllegalStateException",
-        Some("java/lang/RuntimeException"),
-        &[],
-        false,
-        false,
-        true,
-        Family::Throwables,
-        None
-    ),
-    (
-        "java/lang/IncompatibleClassChangeError",
-        Some("java/lang/LinkageError"),
-        &[],
-        false,
-        false,
-        true,
-        Family::Throwables,
-        None
-    ),
-    (
-        "java/lang/IndexOutOfBoundsException",
-        Some("java/lang/RuntimeException"),
-        &[],
-        false,
-        false,
-        true,
-        Family::Throwables,
-        None
-    ),
-    (
-        "java/lang/InstantiationError",
-        Some("java/lang/IncompatibleClassChangeError"),
-        &[],
-        false,
-        false,
-        true,
-        Family::Throwables,
-        None
-    ),
-    (
-        "java/lang/Integer",
-        Some("java/lang/Number"),
-        &[],
-        false,
-        false,
-        false,
-        Family::Alone,
-        None
-    ),
-    (
-        "java/lang/Iterable",
-        Some("java/lang/Object"),
-        &[],
-        true,
-        true,
-        false,
-        Family::Alone,
-        None
-    ),
-    (
-        "java/lang/LinkageError",
-        Some("java/lang/Error"),
-        &[],
-        false,
-        false,
-        true,
-        Family::Throwables,
-        None
-    ),
-    (
-        "java/lang/Long",
-        Some("java/lang/Number"),
-        &[],
-        false,
-        false,
-        false,
-        Family::Alone,
-        None
-    ),
-    (
-        "java/lang/Math",
-        Some("java/lang/Object"),
-        &[],
-        false,
-        false,
-        false,
-        Family::Alone,
-        None
-    ),
-    (
-        "java/lang/NegativeArraySizeException",
-        Some("java/lang/RuntimeException"),
-        &[],
-        false,
-        false,
-        true,
-        Family::Throwables,
-        None
-    ),
-    (
-        "java/lang/NoClassDefFoundError",
-        Some("java/lang/LinkageError"),
-        &[],
-        false,
-        false,
-        true,
-        Family::Throwables,
-        None
-    ),
-    (
-        "java/lang/NoSuchFieldError",
-        Some("java/lang/IncompatibleClassChangeError"),
-        &[],
-        false,
-        false,
-        true,
-        Family::Throwables,
-        None
-    ),
-    (
-        "java/lang/NoSuchMethodError",
-        Some("java/lang/IncompatibleClassChangeError"),
-        &[],
-        false,
-        false,
-        true,
-        Family::Throwables,
-        None
-    ),
-    (
-        "java/lang/NullPointerException",
-        Some("java/lang/RuntimeException"),
-        &[],
-        false,
-        false,
-        true,
-        Family::Throwables,
-        None
-    ),
-    (
-        "java/lang/Number",
-        Some("java/lang/Object"),
-        &[],
-        false,
-        true,
-        false,
-        Family::Alone,
-        None
-    ),
-    (
-        "java/lang/NumberFormatException",
-        Some("java/lang/IllegalArgumentException"),
-        &[],
-        false,
-        false,
-        true,
-        Family::Throwables,
-        None
-    ),
-    (
-        "java/lang/Object",
-        None,
-        &[],
-        false,
-        false,
-        true,
-        Family::Alone,
-        None
-    ),
-    (
-        "java/lang/Runnable",
-        Some("java/lang/Object"),
-        &[],
-        true,
-        true,
-        false,
-        Family::Alone,
-        Some(("run", "()V"))
-    ),
-    (
-        "java/lang/RuntimeException",
-        Some("java/lang/Exception"),
-        &[],
-        false,
-        false,
-        true,
-        Family::Throwables,
-        None
-    ),
-    (
-        "java/lang/String",
-        Some("java/lang/Object"),
-        &["java/lang/CharSequence"],
-        false,
-        false,
-        false,
-        Family::Alone,
-        None
-    ),
-    (
-        "java/lang/StringBuilder",
-        Some("java/lang/Object"),
-        &["java/lang/CharSequence"],
-        false,
-        false,
-        false,
-        Family::Alone,
-        None
-    ),
-    (
-        "java/lang/StringIndexOutOfBoundsException",
-        Some("java/lang/IndexOutOfBoundsException"),
-        &[],
-        false,
-        false,
-        true,
-        Family::Throwables,
-        None
-    ),
-    (
-        "java/lang/Throwable",
-        Some("java/lang/Object"),
-        &[],
-        false,
-        false,
-        true,
-        Family::Throwables,
-        None
-    ),
-    (
-        "java/lang/UnsatisfiedLinkError",
-        Some("java/lang/LinkageError"),
-        &[],
-        false,
-        false,
-        true,
-        Family::Throwables,
-        None
-    ),
-    (
-        "java/lang/UnsupportedOperationException",
-        Some("java/lang/RuntimeException"),
-        &[],
-        false,
-        false,
-        true,
-        Family::Throwables,
-        None
-    ),
-    (
-        "java/util/ArrayList",
-        Some("java/lang/Object"),
-        &["java/util/List"],
-        false,
-        false,
-        false,
-        Family::Lists,
-        None
-    ),
-    (
-        "java/util/Collection",
-        Some("java/lang/Object"),
-        &["java/lang/Iterable"],
-        true,
-        true,
-        false,
-        Family::Lists,
-        None
-    ),
-    (
-        "java/util/Iterator",
-        Some("java/lang/Object"),
-        &[],
-        true,
-        true,
-        false,
-        Family::Alone,
-        None
-    ),
-    (
-        "java/util/List",
-        Some("java/lang/Object"),
-        &["java/util/Collection"],
-        true,
-        true,
-        false,
-        Family::Lists,
-        None
-    ),
-    (
-        "java/util/NoSuchElementException",
-        Some("java/lang/RuntimeException"),
-        &[],
-        false,
-        false,
-        true,
-        Family::Throwables,
-        None
-    ),
-    (
-        "java/util/Objects",
-        Some("java/lang/Object"),
-        &[],
-        false,
-        false,
-        false,
-        Family::Alone,
-        None
-    ),
-    (
-        "java/util/function/BiFunction",
-        Some("java/lang/Object"),
-        &[],
-        true,
-        true,
-        false,
-        Family::Alone,
-        Some((
-            "apply",
-            "(Ljava/lang/Object;Ljava/lang/Object;)Ljava/lang/Object;"
-        ))
-    ),
-    (
-        "java/util/function/BinaryOperator",
-        Some("java/lang/Object"),
-        &["java/util/function/BiFunction"],
-        true,
-        true,
-        false,
-        Family::Alone,
-        None
-    ),
-    (
-        "java/util/function/Consumer",
-        Some("java/lang/Object"),
-        &[],
-        true,
-        true,
-        false,
-        Family::Alone,
-        Some(("accept", "(Ljava/lang/Object;)V"))
-    ),
-    (
-        "java/util/function/Function",
-        Some("java/lang/Object"),
-        &[],
-        true,
-        true,
-        false,
-        Family::Alone,
-        Some(("apply", "(Ljava/lang/Object;)Ljava/lang/Object;"))
-    ),
-    (
-        "java/util/function/Predicate",
-        Some("java/lang/Object"),
-        &[],
-        true,
-        true,
-        false,
-        Family::Alone,
-        Some(("test", "(Ljava/lang/Object;)Z"))
-    ),
-    (
-        "java/util/function/Supplier",
-        Some("java/lang/Object"),
-        &[],
-        true,
-        true,
-        false,
-        Family::Alone,
-        Some(("get", "()Ljava/lang/Object;"))
-    ),
-    (
-        "java/util/function/UnaryOperator",
-        Some("java/lang/Object"),
-        &["java/util/function/Function"],
-        true,
-        true,
-        false,
-        Family::Alone,
-        None
-    ),
-    (
-        "mill/BadValue",
-        Some("java/lang/RuntimeException"),
-        &[],
-        false,
-        false,
-        true,
-        Family::Throwables,
-        None
-    ),
-    (
-        "mill/Denied",
-        Some("java/lang/RuntimeException"),
-        &[],
-        false,
-        false,
-        true,
-        Family::Throwables,
-        None
-    ),
-    (
-        "mill/Env",
-        Some("java/lang/Object"),
-        &[],
-        false,
-        false,
-        false,
-        Family::Alone,
-        None
-    ),
-    (
-        "mill/FixedList",
-        Some("java/lang/Object"),
-        &["java/util/List"],
-        false,
-        false,
-        false,
-        Family::Lists,
-        None
-    ),
-    (
-        "mill/Fs",
-        Some("java/lang/Object"),
-        &[],
-        false,
-        false,
-        false,
-        Family::Alone,
-        None
-    ),
-    (
-        "mill/Lists",
-        Some("java/lang/Object"),
-        &[],
-        false,
-        false,
-        false,
-        Family::Alone,
-        None
-    ),
-    (
-        "mill/Log",
-        Some("java/lang/Object"),
-        &[],
-        false,
-        false,
-        false,
-        Family::Alone,
-        None
-    ),
-    (
-        "mill/PathRef",
-        Some("java/lang/Object"),
-        &[],
-        false,
-        false,
-        false,
-        Family::Alone,
-        None
-    ),
+pub static EXTERNALS: [ExternalFacts; 61] = [
+    row!("java/io/IOException": Some("java/lang/Exception"), [], false, false, true, Throwables, None),
+    row!("java/lang/AbstractMethodError": Some("java/lang/IncompatibleClassChangeError"), [], false, false, true, Throwables, None),
+    row!("java/lang/ArithmeticException": Some("java/lang/RuntimeException"), [], false, false, true, Throwables, None),
+    row!("java/lang/ArrayIndexOutOfBoundsException": Some("java/lang/IndexOutOfBoundsException"), [], false, false, true, Throwables, None),
+    row!("java/lang/ArrayStoreException": Some("java/lang/RuntimeException"), [], false, false, true, Throwables, None),
+    row!("java/lang/AutoCloseable": Some("java/lang/Object"), [], true, true, false, Alone, Some(("close", "()V"))),
+    row!("java/lang/Boolean": Some("java/lang/Object"), [], false, false, false, Alone, None),
+    row!("java/lang/CharSequence": Some("java/lang/Object"), [], true, true, false, Alone, None),
+    row!("java/lang/ClassCastException": Some("java/lang/RuntimeException"), [], false, false, true, Throwables, None),
+    row!("java/lang/Comparable": Some("java/lang/Object"), [], true, true, false, Alone, Some(("compareTo", "(Ljava/lang/Object;)I"))),
+    row!("java/lang/Enum": Some("java/lang/Object"), [], false, true, true, Alone, None),
+    row!("java/lang/Error": Some("java/lang/Throwable"), [], false, false, true, Throwables, None),
+    row!("java/lang/Exception": Some("java/lang/Throwable"), [], false, false, true, Throwables, None),
+    row!("java/lang/ExceptionInInitializerError": Some("java/lang/LinkageError"), [], false, false, true, Throwables, None),
+    row!("java/lang/IllegalArgumentException": Some("java/lang/RuntimeException"), [], false, false, true, Throwables, None),
+    row!("java/lang/IllegalStateException": Some("java/lang/RuntimeException"), [], false, false, true, Throwables, None),
+    row!("java/lang/IncompatibleClassChangeError": Some("java/lang/LinkageError"), [], false, false, true, Throwables, None),
+    row!("java/lang/IndexOutOfBoundsException": Some("java/lang/RuntimeException"), [], false, false, true, Throwables, None),
+    row!("java/lang/InstantiationError": Some("java/lang/IncompatibleClassChangeError"), [], false, false, true, Throwables, None),
+    row!("java/lang/Integer": Some("java/lang/Number"), [], false, false, false, Alone, None),
+    row!("java/lang/Iterable": Some("java/lang/Object"), [], true, true, false, Alone, None),
+    row!("java/lang/LinkageError": Some("java/lang/Error"), [], false, false, true, Throwables, None),
+    row!("java/lang/Long": Some("java/lang/Number"), [], false, false, false, Alone, None),
+    row!("java/lang/Math": Some("java/lang/Object"), [], false, false, false, Alone, None),
+    row!("java/lang/NegativeArraySizeException": Some("java/lang/RuntimeException"), [], false, false, true, Throwables, None),
+    row!("java/lang/NoClassDefFoundError": Some("java/lang/LinkageError"), [], false, false, true, Throwables, None),
+    row!("java/lang/NoSuchFieldError": Some("java/lang/IncompatibleClassChangeError"), [], false, false, true, Throwables, None),
+    row!("java/lang/NoSuchMethodError": Some("java/lang/IncompatibleClassChangeError"), [], false, false, true, Throwables, None),
+    row!("java/lang/NullPointerException": Some("java/lang/RuntimeException"), [], false, false, true, Throwables, None),
+    row!("java/lang/Number": Some("java/lang/Object"), [], false, true, false, Alone, None),
+    row!("java/lang/NumberFormatException": Some("java/lang/IllegalArgumentException"), [], false, false, true, Throwables, None),
+    row!("java/lang/Object": None, [], false, false, true, Alone, None),
+    row!("java/lang/Runnable": Some("java/lang/Object"), [], true, true, false, Alone, Some(("run", "()V"))),
+    row!("java/lang/RuntimeException": Some("java/lang/Exception"), [], false, false, true, Throwables, None),
+    row!("java/lang/String": Some("java/lang/Object"), ["java/lang/CharSequence"], false, false, false, Alone, None),
+    row!("java/lang/StringBuilder": Some("java/lang/Object"), ["java/lang/CharSequence"], false, false, false, Alone, None),
+    row!("java/lang/StringIndexOutOfBoundsException": Some("java/lang/IndexOutOfBoundsException"), [], false, false, true, Throwables, None),
+    row!("java/lang/Throwable": Some("java/lang/Object"), [], false, false, true, Throwables, None),
+    row!("java/lang/UnsatisfiedLinkError": Some("java/lang/LinkageError"), [], false, false, true, Throwables, None),
+    row!("java/lang/UnsupportedOperationException": Some("java/lang/RuntimeException"), [], false, false, true, Throwables, None),
+    row!("java/util/ArrayList": Some("java/lang/Object"), ["java/util/List"], false, false, false, Lists, None),
+    row!("java/util/Collection": Some("java/lang/Object"), ["java/lang/Iterable"], true, true, false, Lists, None),
+    row!("java/util/Iterator": Some("java/lang/Object"), [], true, true, false, Alone, None),
+    row!("java/util/List": Some("java/lang/Object"), ["java/util/Collection"], true, true, false, Lists, None),
+    row!("java/util/NoSuchElementException": Some("java/lang/RuntimeException"), [], false, false, true, Throwables, None),
+    row!("java/util/Objects": Some("java/lang/Object"), [], false, false, false, Alone, None),
+    row!("java/util/function/BiFunction": Some("java/lang/Object"), [], true, true, false, Alone, Some(("apply", "(Ljava/lang/Object;Ljava/lang/Object;)Ljava/lang/Object;"))),
+    row!("java/util/function/BinaryOperator": Some("java/lang/Object"), ["java/util/function/BiFunction"], true, true, false, Alone, None),
+    row!("java/util/function/Consumer": Some("java/lang/Object"), [], true, true, false, Alone, Some(("accept", "(Ljava/lang/Object;)V"))),
+    row!("java/util/function/Function": Some("java/lang/Object"), [], true, true, false, Alone, Some(("apply", "(Ljava/lang/Object;)Ljava/lang/Object;"))),
+    row!("java/util/function/Predicate": Some("java/lang/Object"), [], true, true, false, Alone, Some(("test", "(Ljava/lang/Object;)Z"))),
+    row!("java/util/function/Supplier": Some("java/lang/Object"), [], true, true, false, Alone, Some(("get", "()Ljava/lang/Object;"))),
+    row!("java/util/function/UnaryOperator": Some("java/lang/Object"), ["java/util/function/Function"], true, true, false, Alone, None),
+    row!("mill/BadValue": Some("java/lang/RuntimeException"), [], false, false, true, Throwables, None),
+    row!("mill/Denied": Some("java/lang/RuntimeException"), [], false, false, true, Throwables, None),
+    row!("mill/Env": Some("java/lang/Object"), [], false, false, false, Alone, None),
+    row!("mill/FixedList": Some("java/lang/Object"), ["java/util/List"], false, false, false, Lists, None),
+    row!("mill/Fs": Some("java/lang/Object"), [], false, false, false, Alone, None),
+    row!("mill/Lists": Some("java/lang/Object"), [], false, false, false, Alone, None),
+    row!("mill/Log": Some("java/lang/Object"), [], false, false, false, Alone, None),
+    row!("mill/PathRef": Some("java/lang/Object"), [], false, false, false, Alone, None),
 ];
 
 /// The row of an external class, by its name with slashes.

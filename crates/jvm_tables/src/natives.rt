@@ -50,647 +50,136 @@ pub type NativeFacts = (
     Option<Callback>,
 );
 
-macro_rules! rows {
-    ($(($class:literal, $family:ident, $name:literal, $descriptor:literal, $is_static:literal $(, $calls_back:ident)?),)*) => {
-        [$(($class, Family::$family, $name, $descriptor, $is_static, callback!($($calls_back)?)),)*]
+// The facts in the order of `NativeFacts`; a row ends early where it calls nothing back.
+macro_rules! row {
+    ($class:literal: $family:ident, $name:literal, $descriptor:literal, $is_static:literal) => {
+        ($class, Family::$family, $name, $descriptor, $is_static, None)
+    };
+    ($class:literal: $family:ident, $name:literal, $descriptor:literal, $is_static:literal, $calls_back:ident) => {
+        ($class, Family::$family, $name, $descriptor, $is_static, Some(Callback::$calls_back))
     };
 }
 
-macro_rules! callback {
-    () => { None };
-    ($calls_back:ident) => { Some(Callback::$calls_back) };
-}
-
 /// The natives.
-pub static NATIVES: [NativeFacts; 118] = rows![
-    ("java/lang/Object", Alone, "<init>", "()V", false),
-    (
-        "java/lang/Object",
-        Alone,
-        "toString",
-        "()Ljava/lang/String;",
-        false
-    ),
-    ("java/lang/Object", Alone, "hashCode", "()I", false),
-    (
-        "java/lang/Object",
-        Alone,
-        "equals",
-        "(Ljava/lang/Object;)Z",
-        false
-    ),
-    (
-        "java/lang/Object",
-        Arrays,
-        "clone",
-        "()Ljava/lang/Object;",
-        false
-    ),
-    ("java/lang/String", Alone, "length", "()I", false),
-    ("java/lang/String", Alone, "isEmpty", "()Z", false),
-    ("java/lang/String", Alone, "charAt", "(I)C", false),
-    (
-        "java/lang/String",
-        Alone,
-        "substring",
-        "(I)Ljava/lang/String;",
-        false
-    ),
-    (
-        "java/lang/String",
-        Alone,
-        "substring",
-        "(II)Ljava/lang/String;",
-        false
-    ),
-    (
-        "java/lang/String",
-        Alone,
-        "indexOf",
-        "(Ljava/lang/String;)I",
-        false
-    ),
-    (
-        "java/lang/String",
-        Alone,
-        "startsWith",
-        "(Ljava/lang/String;)Z",
-        false
-    ),
-    (
-        "java/lang/String",
-        Alone,
-        "endsWith",
-        "(Ljava/lang/String;)Z",
-        false
-    ),
-    (
-        "java/lang/String",
-        Alone,
-        "concat",
-        "(Ljava/lang/String;)Ljava/lang/String;",
-        false
-    ),
-    (
-        "java/lang/String",
-        Alone,
-        "compareTo",
-        "(Ljava/lang/String;)I",
-        false
-    ),
-    (
-        "java/lang/String",
-        Alone,
-        "equals",
-        "(Ljava/lang/Object;)Z",
-        false
-    ),
-    ("java/lang/String", Alone, "hashCode", "()I", false),
-    (
-        "java/lang/String",
-        Alone,
-        "toString",
-        "()Ljava/lang/String;",
-        false
-    ),
-    (
-        "java/lang/String",
-        Alone,
-        "contains",
-        "(Ljava/lang/CharSequence;)Z",
-        false
-    ),
-    (
-        "java/lang/String",
-        Alone,
-        "valueOf",
-        "(I)Ljava/lang/String;",
-        true
-    ),
-    (
-        "java/lang/String",
-        Alone,
-        "valueOf",
-        "(J)Ljava/lang/String;",
-        true
-    ),
-    (
-        "java/lang/String",
-        Alone,
-        "valueOf",
-        "(Z)Ljava/lang/String;",
-        true
-    ),
-    (
-        "java/lang/String",
-        Alone,
-        "valueOf",
-        "(C)Ljava/lang/String;",
-        true
-    ),
-    (
-        "java/lang/String",
-        Alone,
-        "valueOf",
-        "(Ljava/lang/Object;)Ljava/lang/String;",
-        true,
-        ToString
-    ),
-    ("java/lang/StringBuilder", Alone, "<init>", "()V", false),
-    (
-        "java/lang/StringBuilder",
-        Alone,
-        "<init>",
-        "(Ljava/lang/String;)V",
-        false
-    ),
-    (
-        "java/lang/StringBuilder",
-        Alone,
-        "toString",
-        "()Ljava/lang/String;",
-        false
-    ),
-    ("java/lang/StringBuilder", Alone, "length", "()I", false),
-    (
-        "java/lang/StringBuilder",
-        Alone,
-        "append",
-        "(Ljava/lang/String;)Ljava/lang/StringBuilder;",
-        false
-    ),
-    (
-        "java/lang/StringBuilder",
-        Alone,
-        "append",
-        "(I)Ljava/lang/StringBuilder;",
-        false
-    ),
-    (
-        "java/lang/StringBuilder",
-        Alone,
-        "append",
-        "(J)Ljava/lang/StringBuilder;",
-        false
-    ),
-    (
-        "java/lang/StringBuilder",
-        Alone,
-        "append",
-        "(C)Ljava/lang/StringBuilder;",
-        false
-    ),
-    (
-        "java/lang/StringBuilder",
-        Alone,
-        "append",
-        "(Z)Ljava/lang/StringBuilder;",
-        false
-    ),
-    (
-        "java/lang/StringBuilder",
-        Alone,
-        "append",
-        "(Ljava/lang/Object;)Ljava/lang/StringBuilder;",
-        false,
-        ToString
-    ),
-    (
-        "java/lang/Integer",
-        Alone,
-        "valueOf",
-        "(I)Ljava/lang/Integer;",
-        true
-    ),
-    (
-        "java/lang/Integer",
-        Alone,
-        "parseInt",
-        "(Ljava/lang/String;)I",
-        true
-    ),
-    (
-        "java/lang/Integer",
-        Alone,
-        "toString",
-        "(I)Ljava/lang/String;",
-        true
-    ),
-    ("java/lang/Integer", Alone, "sum", "(II)I", true),
-    ("java/lang/Integer", Alone, "intValue", "()I", false),
-    ("java/lang/Integer", Alone, "longValue", "()J", false),
-    (
-        "java/lang/Integer",
-        Alone,
-        "equals",
-        "(Ljava/lang/Object;)Z",
-        false
-    ),
-    ("java/lang/Integer", Alone, "hashCode", "()I", false),
-    (
-        "java/lang/Integer",
-        Alone,
-        "toString",
-        "()Ljava/lang/String;",
-        false
-    ),
-    (
-        "java/lang/Long",
-        Alone,
-        "valueOf",
-        "(J)Ljava/lang/Long;",
-        true
-    ),
-    (
-        "java/lang/Long",
-        Alone,
-        "parseLong",
-        "(Ljava/lang/String;)J",
-        true
-    ),
-    (
-        "java/lang/Long",
-        Alone,
-        "toString",
-        "(J)Ljava/lang/String;",
-        true
-    ),
-    ("java/lang/Long", Alone, "sum", "(JJ)J", true),
-    ("java/lang/Long", Alone, "intValue", "()I", false),
-    ("java/lang/Long", Alone, "longValue", "()J", false),
-    (
-        "java/lang/Long",
-        Alone,
-        "equals",
-        "(Ljava/lang/Object;)Z",
-        false
-    ),
-    ("java/lang/Long", Alone, "hashCode", "()I", false),
-    (
-        "java/lang/Long",
-        Alone,
-        "toString",
-        "()Ljava/lang/String;",
-        false
-    ),
-    (
-        "java/lang/Boolean",
-        Alone,
-        "valueOf",
-        "(Z)Ljava/lang/Boolean;",
-        true
-    ),
-    ("java/lang/Boolean", Alone, "booleanValue", "()Z", false),
-    (
-        "java/lang/Boolean",
-        Alone,
-        "equals",
-        "(Ljava/lang/Object;)Z",
-        false
-    ),
-    ("java/lang/Boolean", Alone, "hashCode", "()I", false),
-    (
-        "java/lang/Boolean",
-        Alone,
-        "toString",
-        "()Ljava/lang/String;",
-        false
-    ),
-    ("java/lang/Math", Alone, "abs", "(I)I", true),
-    ("java/lang/Math", Alone, "abs", "(J)J", true),
-    ("java/lang/Math", Alone, "max", "(II)I", true),
-    ("java/lang/Math", Alone, "max", "(JJ)J", true),
-    ("java/lang/Math", Alone, "min", "(II)I", true),
-    ("java/lang/Math", Alone, "min", "(JJ)J", true),
-    (
-        "java/util/Objects",
-        Alone,
-        "requireNonNull",
-        "(Ljava/lang/Object;)Ljava/lang/Object;",
-        true
-    ),
-    (
-        "java/util/Objects",
-        Alone,
-        "equals",
-        "(Ljava/lang/Object;Ljava/lang/Object;)Z",
-        true,
-        Equals
-    ),
-    (
-        "java/lang/Enum",
-        Alone,
-        "<init>",
-        "(Ljava/lang/String;I)V",
-        false
-    ),
-    (
-        "java/lang/Enum",
-        Alone,
-        "name",
-        "()Ljava/lang/String;",
-        false
-    ),
-    ("java/lang/Enum", Alone, "ordinal", "()I", false),
-    (
-        "java/lang/Enum",
-        Alone,
-        "toString",
-        "()Ljava/lang/String;",
-        false
-    ),
-    ("java/util/ArrayList", Alone, "<init>", "()V", false),
-    ("java/util/ArrayList", Alone, "<init>", "(I)V", false),
-    ("java/util/Collection", Lists, "size", "()I", false),
-    ("java/util/Collection", Lists, "isEmpty", "()Z", false),
-    (
-        "java/util/Collection",
-        Lists,
-        "get",
-        "(I)Ljava/lang/Object;",
-        false
-    ),
-    (
-        "java/util/Collection",
-        Lists,
-        "set",
-        "(ILjava/lang/Object;)Ljava/lang/Object;",
-        false
-    ),
-    (
-        "java/util/Collection",
-        Lists,
-        "add",
-        "(Ljava/lang/Object;)Z",
-        false
-    ),
-    (
-        "java/util/Collection",
-        Lists,
-        "contains",
-        "(Ljava/lang/Object;)Z",
-        false,
-        Equals
-    ),
-    (
-        "java/util/Collection",
-        Lists,
-        "indexOf",
-        "(Ljava/lang/Object;)I",
-        false,
-        Equals
-    ),
-    (
-        "java/util/Collection",
-        Lists,
-        "iterator",
-        "()Ljava/util/Iterator;",
-        false
-    ),
-    (
-        "java/util/Collection",
-        Lists,
-        "forEach",
-        "(Ljava/util/function/Consumer;)V",
-        false,
-        Accept
-    ),
-    (
-        "java/util/Collection",
-        Lists,
-        "toString",
-        "()Ljava/lang/String;",
-        false,
-        ToString
-    ),
-    (
-        "java/util/Collection",
-        Lists,
-        "equals",
-        "(Ljava/lang/Object;)Z",
-        false
-    ),
-    ("java/util/Collection", Lists, "hashCode", "()I", false),
-    ("java/util/List", Alone, "of", "()Ljava/util/List;", true),
-    (
-        "java/util/List",
-        Alone,
-        "of",
-        "(Ljava/lang/Object;)Ljava/util/List;",
-        true
-    ),
-    (
-        "java/util/List",
-        Alone,
-        "of",
-        "(Ljava/lang/Object;Ljava/lang/Object;)Ljava/util/List;",
-        true
-    ),
-    (
-        "java/util/List",
-        Alone,
-        "of",
-        "(Ljava/lang/Object;Ljava/lang/Object;Ljava/lang/Object;)Ljava/util/List;",
-        true
-    ),
-    (
-        "java/util/List",
-        Alone,
-        "of",
-        "(Ljava/lang/Object;Ljava/lang/Object;Ljava/lang/Object;Ljava/lang/Object;)Ljava/util/List;",
-        true
-    ),
-    (
-        "java/util/List",
-        Alone,
-        "of",
-        "(Ljava/lang/Object;Ljava/lang/Object;Ljava/lang/Object;Ljava/lang/Object;Ljava/lang/Object;)Ljava/util/List;",
-        true
-    ),
-    (
-        "java/util/List",
-        Alone,
-        "of",
-        "(Ljava/lang/Object;Ljava/lang/Object;Ljava/lang/Object;Ljava/lang/Object;Ljava/lang/Object;Ljava/lang/Object;)Ljava/util/List;",
-        true
-    ),
-    (
-        "java/util/List",
-        Alone,
-        "of",
-        "(Ljava/lang/Object;Ljava/lang/Object;Ljava/lang/Object;Ljava/lang/Object;Ljava/lang/Object;Ljava/lang/Object;Ljava/lang/Object;)Ljava/util/List;",
-        true
-    ),
-    (
-        "java/util/List",
-        Alone,
-        "of",
-        "(Ljava/lang/Object;Ljava/lang/Object;Ljava/lang/Object;Ljava/lang/Object;Ljava/lang/Object;Ljava/lang/Object;Ljava/lang/Object;Ljava/lang/Object;)Ljava/util/List;",
-        true
-    ),
-    (
-        "java/util/List",
-        Alone,
-        "of",
-        "(Ljava/lang/Object;Ljava/lang/Object;Ljava/lang/Object;Ljava/lang/Object;Ljava/lang/Object;Ljava/lang/Object;Ljava/lang/Object;Ljava/lang/Object;Ljava/lang/Object;)Ljava/util/List;",
-        true
-    ),
-    (
-        "java/util/List",
-        Alone,
-        "of",
-        "(Ljava/lang/Object;Ljava/lang/Object;Ljava/lang/Object;Ljava/lang/Object;Ljava/lang/Object;Ljava/lang/Object;Ljava/lang/Object;Ljava/lang/Object;Ljava/lang/Object;Ljava/lang/Object;)Ljava/util/List;",
-        true
-    ),
-    (
-        "java/util/List",
-        Alone,
-        "of",
-        "([Ljava/lang/Object;)Ljava/util/List;",
-        true
-    ),
-    ("java/util/Iterator", Alone, "hasNext", "()Z", false),
-    (
-        "java/util/Iterator",
-        Alone,
-        "next",
-        "()Ljava/lang/Object;",
-        false
-    ),
-    ("java/lang/Throwable", Throwables, "<init>", "()V", false),
-    (
-        "java/lang/Throwable",
-        Throwables,
-        "<init>",
-        "(Ljava/lang/String;)V",
-        false
-    ),
-    (
-        "java/lang/Throwable",
-        Throwables,
-        "<init>",
-        "(Ljava/lang/String;Ljava/lang/Throwable;)V",
-        false
-    ),
-    (
-        "java/lang/Throwable",
-        Throwables,
-        "<init>",
-        "(Ljava/lang/Throwable;)V",
-        false,
-        ToString
-    ),
-    (
-        "java/lang/Throwable",
-        Throwables,
-        "getMessage",
-        "()Ljava/lang/String;",
-        false
-    ),
-    (
-        "java/lang/Throwable",
-        Throwables,
-        "getCause",
-        "()Ljava/lang/Throwable;",
-        false
-    ),
-    (
-        "java/lang/Throwable",
-        Throwables,
-        "addSuppressed",
-        "(Ljava/lang/Throwable;)V",
-        false
-    ),
-    (
-        "java/lang/Throwable",
-        Throwables,
-        "toString",
-        "()Ljava/lang/String;",
-        false
-    ),
-    (
-        "mill/Lists",
-        Alone,
-        "map",
-        "(Ljava/util/List;Ljava/util/function/Function;)Ljava/util/List;",
-        true,
-        Apply
-    ),
-    (
-        "mill/Lists",
-        Alone,
-        "filter",
-        "(Ljava/util/List;Ljava/util/function/Predicate;)Ljava/util/List;",
-        true,
-        Test
-    ),
-    (
-        "mill/Lists",
-        Alone,
-        "fold",
-        "(Ljava/util/List;Ljava/lang/Object;Ljava/util/function/BiFunction;)Ljava/lang/Object;",
-        true,
-        ApplyTwo
-    ),
-    (
-        "mill/Lists",
-        Alone,
-        "each",
-        "(Ljava/util/List;Ljava/util/function/Consumer;)V",
-        true,
-        Accept
-    ),
-    (
-        "mill/Fs",
-        Alone,
-        "read",
-        "(Lmill/PathRef;Ljava/lang/String;)Ljava/lang/String;",
-        true
-    ),
-    (
-        "mill/Fs",
-        Alone,
-        "size",
-        "(Lmill/PathRef;Ljava/lang/String;)J",
-        true
-    ),
-    (
-        "mill/Fs",
-        Alone,
-        "list",
-        "(Lmill/PathRef;)Ljava/util/List;",
-        true
-    ),
-    (
-        "mill/Fs",
-        Alone,
-        "write",
-        "(Ljava/lang/String;Ljava/lang/String;)V",
-        true
-    ),
-    (
-        "mill/Fs",
-        Alone,
-        "dest",
-        "(Ljava/lang/String;)Lmill/PathRef;",
-        true
-    ),
-    (
-        "mill/PathRef",
-        Alone,
-        "sub",
-        "(Ljava/lang/String;)Lmill/PathRef;",
-        false
-    ),
-    ("mill/Log", Alone, "info", "(Ljava/lang/String;)V", true),
-    (
-        "mill/Env",
-        Alone,
-        "get",
-        "(Ljava/lang/String;)Ljava/lang/String;",
-        true
-    ),
-    ("mill/Env", Alone, "now", "()J", true),
+pub static NATIVES: [NativeFacts; 118] = [
+    row!("java/lang/Object": Alone, "<init>", "()V", false),
+    row!("java/lang/Object": Alone, "toString", "()Ljava/lang/String;", false),
+    row!("java/lang/Object": Alone, "hashCode", "()I", false),
+    row!("java/lang/Object": Alone, "equals", "(Ljava/lang/Object;)Z", false),
+    row!("java/lang/Object": Arrays, "clone", "()Ljava/lang/Object;", false),
+    row!("java/lang/String": Alone, "length", "()I", false),
+    row!("java/lang/String": Alone, "isEmpty", "()Z", false),
+    row!("java/lang/String": Alone, "charAt", "(I)C", false),
+    row!("java/lang/String": Alone, "substring", "(I)Ljava/lang/String;", false),
+    row!("java/lang/String": Alone, "substring", "(II)Ljava/lang/String;", false),
+    row!("java/lang/String": Alone, "indexOf", "(Ljava/lang/String;)I", false),
+    row!("java/lang/String": Alone, "startsWith", "(Ljava/lang/String;)Z", false),
+    row!("java/lang/String": Alone, "endsWith", "(Ljava/lang/String;)Z", false),
+    row!("java/lang/String": Alone, "concat", "(Ljava/lang/String;)Ljava/lang/String;", false),
+    row!("java/lang/String": Alone, "compareTo", "(Ljava/lang/String;)I", false),
+    row!("java/lang/String": Alone, "equals", "(Ljava/lang/Object;)Z", false),
+    row!("java/lang/String": Alone, "hashCode", "()I", false),
+    row!("java/lang/String": Alone, "toString", "()Ljava/lang/String;", false),
+    row!("java/lang/String": Alone, "contains", "(Ljava/lang/CharSequence;)Z", false),
+    row!("java/lang/String": Alone, "valueOf", "(I)Ljava/lang/String;", true),
+    row!("java/lang/String": Alone, "valueOf", "(J)Ljava/lang/String;", true),
+    row!("java/lang/String": Alone, "valueOf", "(Z)Ljava/lang/String;", true),
+    row!("java/lang/String": Alone, "valueOf", "(C)Ljava/lang/String;", true),
+    row!("java/lang/String": Alone, "valueOf", "(Ljava/lang/Object;)Ljava/lang/String;", true, ToString),
+    row!("java/lang/StringBuilder": Alone, "<init>", "()V", false),
+    row!("java/lang/StringBuilder": Alone, "<init>", "(Ljava/lang/String;)V", false),
+    row!("java/lang/StringBuilder": Alone, "toString", "()Ljava/lang/String;", false),
+    row!("java/lang/StringBuilder": Alone, "length", "()I", false),
+    row!("java/lang/StringBuilder": Alone, "append", "(Ljava/lang/String;)Ljava/lang/StringBuilder;", false),
+    row!("java/lang/StringBuilder": Alone, "append", "(I)Ljava/lang/StringBuilder;", false),
+    row!("java/lang/StringBuilder": Alone, "append", "(J)Ljava/lang/StringBuilder;", false),
+    row!("java/lang/StringBuilder": Alone, "append", "(C)Ljava/lang/StringBuilder;", false),
+    row!("java/lang/StringBuilder": Alone, "append", "(Z)Ljava/lang/StringBuilder;", false),
+    row!("java/lang/StringBuilder": Alone, "append", "(Ljava/lang/Object;)Ljava/lang/StringBuilder;", false, ToString),
+    row!("java/lang/Integer": Alone, "valueOf", "(I)Ljava/lang/Integer;", true),
+    row!("java/lang/Integer": Alone, "parseInt", "(Ljava/lang/String;)I", true),
+    row!("java/lang/Integer": Alone, "toString", "(I)Ljava/lang/String;", true),
+    row!("java/lang/Integer": Alone, "sum", "(II)I", true),
+    row!("java/lang/Integer": Alone, "intValue", "()I", false),
+    row!("java/lang/Integer": Alone, "longValue", "()J", false),
+    row!("java/lang/Integer": Alone, "equals", "(Ljava/lang/Object;)Z", false),
+    row!("java/lang/Integer": Alone, "hashCode", "()I", false),
+    row!("java/lang/Integer": Alone, "toString", "()Ljava/lang/String;", false),
+    row!("java/lang/Long": Alone, "valueOf", "(J)Ljava/lang/Long;", true),
+    row!("java/lang/Long": Alone, "parseLong", "(Ljava/lang/String;)J", true),
+    row!("java/lang/Long": Alone, "toString", "(J)Ljava/lang/String;", true),
+    row!("java/lang/Long": Alone, "sum", "(JJ)J", true),
+    row!("java/lang/Long": Alone, "intValue", "()I", false),
+    row!("java/lang/Long": Alone, "longValue", "()J", false),
+    row!("java/lang/Long": Alone, "equals", "(Ljava/lang/Object;)Z", false),
+    row!("java/lang/Long": Alone, "hashCode", "()I", false),
+    row!("java/lang/Long": Alone, "toString", "()Ljava/lang/String;", false),
+    row!("java/lang/Boolean": Alone, "valueOf", "(Z)Ljava/lang/Boolean;", true),
+    row!("java/lang/Boolean": Alone, "booleanValue", "()Z", false),
+    row!("java/lang/Boolean": Alone, "equals", "(Ljava/lang/Object;)Z", false),
+    row!("java/lang/Boolean": Alone, "hashCode", "()I", false),
+    row!("java/lang/Boolean": Alone, "toString", "()Ljava/lang/String;", false),
+    row!("java/lang/Math": Alone, "abs", "(I)I", true),
+    row!("java/lang/Math": Alone, "abs", "(J)J", true),
+    row!("java/lang/Math": Alone, "max", "(II)I", true),
+    row!("java/lang/Math": Alone, "max", "(JJ)J", true),
+    row!("java/lang/Math": Alone, "min", "(II)I", true),
+    row!("java/lang/Math": Alone, "min", "(JJ)J", true),
+    row!("java/util/Objects": Alone, "requireNonNull", "(Ljava/lang/Object;)Ljava/lang/Object;", true),
+    row!("java/util/Objects": Alone, "equals", "(Ljava/lang/Object;Ljava/lang/Object;)Z", true, Equals),
+    row!("java/lang/Enum": Alone, "<init>", "(Ljava/lang/String;I)V", false),
+    row!("java/lang/Enum": Alone, "name", "()Ljava/lang/String;", false),
+    row!("java/lang/Enum": Alone, "ordinal", "()I", false),
+    row!("java/lang/Enum": Alone, "toString", "()Ljava/lang/String;", false),
+    row!("java/util/ArrayList": Alone, "<init>", "()V", false),
+    row!("java/util/ArrayList": Alone, "<init>", "(I)V", false),
+    row!("java/util/Collection": Lists, "size", "()I", false),
+    row!("java/util/Collection": Lists, "isEmpty", "()Z", false),
+    row!("java/util/Collection": Lists, "get", "(I)Ljava/lang/Object;", false),
+    row!("java/util/Collection": Lists, "set", "(ILjava/lang/Object;)Ljava/lang/Object;", false),
+    row!("java/util/Collection": Lists, "add", "(Ljava/lang/Object;)Z", false),
+    row!("java/util/Collection": Lists, "contains", "(Ljava/lang/Object;)Z", false, Equals),
+    row!("java/util/Collection": Lists, "indexOf", "(Ljava/lang/Object;)I", false, Equals),
+    row!("java/util/Collection": Lists, "iterator", "()Ljava/util/Iterator;", false),
+    row!("java/util/Collection": Lists, "forEach", "(Ljava/util/function/Consumer;)V", false, Accept),
+    row!("java/util/Collection": Lists, "toString", "()Ljava/lang/String;", false, ToString),
+    row!("java/util/Collection": Lists, "equals", "(Ljava/lang/Object;)Z", false),
+    row!("java/util/Collection": Lists, "hashCode", "()I", false),
+    row!("java/util/List": Alone, "of", "()Ljava/util/List;", true),
+    row!("java/util/List": Alone, "of", "(Ljava/lang/Object;)Ljava/util/List;", true),
+    row!("java/util/List": Alone, "of", "(Ljava/lang/Object;Ljava/lang/Object;)Ljava/util/List;", true),
+    row!("java/util/List": Alone, "of", "(Ljava/lang/Object;Ljava/lang/Object;Ljava/lang/Object;)Ljava/util/List;", true),
+    row!("java/util/List": Alone, "of", "(Ljava/lang/Object;Ljava/lang/Object;Ljava/lang/Object;Ljava/lang/Object;)Ljava/util/List;", true),
+    row!("java/util/List": Alone, "of", "(Ljava/lang/Object;Ljava/lang/Object;Ljava/lang/Object;Ljava/lang/Object;Ljava/lang/Object;)Ljava/util/List;", true),
+    row!("java/util/List": Alone, "of", "(Ljava/lang/Object;Ljava/lang/Object;Ljava/lang/Object;Ljava/lang/Object;Ljava/lang/Object;Ljava/lang/Object;)Ljava/util/List;", true),
+    row!("java/util/List": Alone, "of", "(Ljava/lang/Object;Ljava/lang/Object;Ljava/lang/Object;Ljava/lang/Object;Ljava/lang/Object;Ljava/lang/Object;Ljava/lang/Object;)Ljava/util/List;", true),
+    row!("java/util/List": Alone, "of", "(Ljava/lang/Object;Ljava/lang/Object;Ljava/lang/Object;Ljava/lang/Object;Ljava/lang/Object;Ljava/lang/Object;Ljava/lang/Object;Ljava/lang/Object;)Ljava/util/List;", true),
+    row!("java/util/List": Alone, "of", "(Ljava/lang/Object;Ljava/lang/Object;Ljava/lang/Object;Ljava/lang/Object;Ljava/lang/Object;Ljava/lang/Object;Ljava/lang/Object;Ljava/lang/Object;Ljava/lang/Object;)Ljava/util/List;", true),
+    row!("java/util/List": Alone, "of", "(Ljava/lang/Object;Ljava/lang/Object;Ljava/lang/Object;Ljava/lang/Object;Ljava/lang/Object;Ljava/lang/Object;Ljava/lang/Object;Ljava/lang/Object;Ljava/lang/Object;Ljava/lang/Object;)Ljava/util/List;", true),
+    row!("java/util/List": Alone, "of", "([Ljava/lang/Object;)Ljava/util/List;", true),
+    row!("java/util/Iterator": Alone, "hasNext", "()Z", false),
+    row!("java/util/Iterator": Alone, "next", "()Ljava/lang/Object;", false),
+    row!("java/lang/Throwable": Throwables, "<init>", "()V", false),
+    row!("java/lang/Throwable": Throwables, "<init>", "(Ljava/lang/String;)V", false),
+    row!("java/lang/Throwable": Throwables, "<init>", "(Ljava/lang/String;Ljava/lang/Throwable;)V", false),
+    row!("java/lang/Throwable": Throwables, "<init>", "(Ljava/lang/Throwable;)V", false, ToString),
+    row!("java/lang/Throwable": Throwables, "getMessage", "()Ljava/lang/String;", false),
+    row!("java/lang/Throwable": Throwables, "getCause", "()Ljava/lang/Throwable;", false),
+    row!("java/lang/Throwable": Throwables, "addSuppressed", "(Ljava/lang/Throwable;)V", false),
+    row!("java/lang/Throwable": Throwables, "toString", "()Ljava/lang/String;", false),
+    row!("mill/Lists": Alone, "map", "(Ljava/util/List;Ljava/util/function/Function;)Ljava/util/List;", true, Apply),
+    row!("mill/Lists": Alone, "filter", "(Ljava/util/List;Ljava/util/function/Predicate;)Ljava/util/List;", true, Test),
+    row!("mill/Lists": Alone, "fold", "(Ljava/util/List;Ljava/lang/Object;Ljava/util/function/BiFunction;)Ljava/lang/Object;", true, ApplyTwo),
+    row!("mill/Lists": Alone, "each", "(Ljava/util/List;Ljava/util/function/Consumer;)V", true, Accept),
+    row!("mill/Fs": Alone, "read", "(Lmill/PathRef;Ljava/lang/String;)Ljava/lang/String;", true),
+    row!("mill/Fs": Alone, "size", "(Lmill/PathRef;Ljava/lang/String;)J", true),
+    row!("mill/Fs": Alone, "list", "(Lmill/PathRef;)Ljava/util/List;", true),
+    row!("mill/Fs": Alone, "write", "(Ljava/lang/String;Ljava/lang/String;)V", true),
+    row!("mill/Fs": Alone, "dest", "(Ljava/lang/String;)Lmill/PathRef;", true),
+    row!("mill/PathRef": Alone, "sub", "(Ljava/lang/String;)Lmill/PathRef;", false),
+    row!("mill/Log": Alone, "info", "(Ljava/lang/String;)V", true),
+    row!("mill/Env": Alone, "get", "(Ljava/lang/String;)Ljava/lang/String;", true),
+    row!("mill/Env": Alone, "now", "()J", true),
 ];
 
 /// The row of a native, by its class, name and descriptor. A class of arrays has its name as in a
