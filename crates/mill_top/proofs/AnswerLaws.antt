@@ -16,7 +16,7 @@ use Rattle.mill_top.specs.declared.class_file.SmallFile.{SmallFile}
 use Rattle.mill_top.specs.SmallFiles.{constant}
 use Rattle.mill_top.specs.Builds.{not_built, task_in}
 use Rattle.mill_top.specs.Entries.{entry_name, Reads, IsFound}
-use Rattle.mill_top.specs.Inputs.{input_hash}
+use Rattle.mill_top.specs.Inputs.{input_hash, IsDigested}
 use Rattle.mill_top.specs.Scratch.{scratch}
 use Rattle.mill_top.specs.Takes.{Why, IsNew, IsWhy, Gives}
 use Rattle.mill_top.specs.Out.{log_of, with_run, after_take, MayLeaveRun, MayLeaveTake, MayLeave}
@@ -78,6 +78,7 @@ nothing_answer inputs task before now old new reply takes accepted h = record {
   evaluated = subst (λ r. IfNone r (IsEvaluation reply)) (sym accepted) h.evaluated;
   cause = h.cause;
   value = λ value is. absurd (h.no_value value is);
+  digested = λ value is. absurd (h.no_value value is);
   why = subst (AllByRecursion (IsWhy inputs old)) (sym h.none_taken) tt;
   out = λ value is. absurd (h.no_value value is);
   left = subst (λ ts. MayLeave inputs ts old new) (sym h.none_taken) h.same;
@@ -103,9 +104,9 @@ reads_at task input content entry has = has.reads
 
 -- an entry is reused
 reuse_answer : (inputs : Record) (task : List ℕ) (before now : ℕ) (old new : Option Files) (entry : Entry)
-    → refusal inputs task ≡ None → HasEntry task (input_hash inputs task) old entry → new ≡ old
+    → refusal inputs task ≡ None → IsDigested inputs task → HasEntry task (input_hash inputs task) old entry → new ≡ old
     → IsAnswer inputs task before now old new (Value entry.value) ((task, Same entry.input) ∷ [])
-reuse_answer inputs task before now old new entry accepted has same = record {
+reuse_answer inputs task before now old new entry accepted digested has same = record {
   refused = accepted_refused inputs task (Value entry.value) ((task, Same entry.input) ∷ []) accepted;
   evaluated = subst (λ r. IfNone r (IsEvaluation (Value entry.value))) (sym accepted) tt;
   cause = λ e. cc;
@@ -116,6 +117,7 @@ reuse_answer inputs task before now old new entry accepted has same = record {
         one = refl;
         gives = subst (λ v. IfSome old (λ files. Reads task (get files (entry_name task)) (record { input = entry.input; value = v }))) own (reads_at task _ old entry has);
       };
+  digested = λ value is. digested;
   why = (why_same old has.reads, tt);
   out = λ value is. same;
   left = same;
@@ -127,10 +129,10 @@ reuse_answer inputs task before now old new entry accepted has same = record {
 
 -- the task is run
 run_answer : (inputs : Record) (task : List ℕ) (outcome : Outcome) (before now : ℕ) (old new : Option Files) (reply : Reply) (found : Found)
-    → refusal inputs task ≡ None → scratch inputs task ≡ Some outcome → IsReason task (input_hash inputs task) old found
+    → refusal inputs task ≡ None → IsDigested inputs task → scratch inputs task ≡ Some outcome → IsReason task (input_hash inputs task) old found
     → IsKeptRun task (input_hash inputs task) outcome before now old new reply
     → IsAnswer inputs task before now old new reply ((task, found) ∷ [])
-run_answer inputs task outcome before now old new reply found accepted is reason run = record {
+run_answer inputs task outcome before now old new reply found accepted digested is reason run = record {
   refused = accepted_refused inputs task reply ((task, found) ∷ []) accepted;
   evaluated = subst (λ r. IfNone r (IsEvaluation reply)) (sym accepted) run.evaluated;
   cause = run.cause;
@@ -139,6 +141,7 @@ run_answer inputs task outcome before now old new reply found accepted is reason
     one = refl;
     gives = gives_run inputs task found old value (log_of outcome) reason.new (is ∙ ap (λ x. Some x) (run.value value own));
   };
+  digested = λ value own. digested;
   why = (reason.why, tt);
   out = λ value own. run.out value own ∙ sym (after_run inputs task found (scratch inputs task) outcome old reason.new is);
   left = may_leave_run inputs task found (scratch inputs task) outcome old new reason.new is run.left;
@@ -150,17 +153,17 @@ moved inputs task before now old new reply own takes own_takes p q answer =
     subst (λ r. IsAnswer inputs task before now old new r takes) (sym p) (subst (λ ts. IsAnswer inputs task before now old new own ts) (sym q) answer)
 
 pub take_answer : (inputs : Record) (task input : List ℕ) (outcome : Outcome) (before now : ℕ) (old new : Option Files) (reply : Reply) (takes : List (List ℕ × Found))
-    → refusal inputs task ≡ None → scratch inputs task ≡ Some outcome → input ≡ input_hash inputs task
+    → refusal inputs task ≡ None → IsDigested inputs task → scratch inputs task ≡ Some outcome → input ≡ input_hash inputs task
     → IsTake task input outcome before now old new reply takes → IsAnswer inputs task before now old new reply takes
-take_answer inputs task input outcome before now old new reply takes accepted is hash (inl nothing) = nothing_answer inputs task before now old new reply takes accepted nothing
-take_answer inputs task input outcome before now old new reply takes accepted is hash (inr (inl (entry, has, same, inl (p, q)))) =
-    moved inputs task before now old new reply _ takes _ p q (reuse_answer inputs task before now old new entry accepted (subst (λ h. HasEntry task h old entry) hash has) same)
-take_answer inputs task input outcome before now old new reply takes accepted is hash (inr (inl (entry, has, same, inr (p, q)))) =
+take_answer inputs task input outcome before now old new reply takes accepted digested is hash (inl nothing) = nothing_answer inputs task before now old new reply takes accepted nothing
+take_answer inputs task input outcome before now old new reply takes accepted digested is hash (inr (inl (entry, has, same, inl (p, q)))) =
+    moved inputs task before now old new reply _ takes _ p q (reuse_answer inputs task before now old new entry accepted digested (subst (λ h. HasEntry task h old entry) hash has) same)
+take_answer inputs task input outcome before now old new reply takes accepted digested is hash (inr (inl (entry, has, same, inr (p, q)))) =
     nothing_answer inputs task before now old new reply takes accepted (memory_nothing before now old new reply takes p q same)
-take_answer inputs task input outcome before now old new reply takes accepted is hash (inr (inr (found, reason, inl (run, q)))) =
+take_answer inputs task input outcome before now old new reply takes accepted digested is hash (inr (inr (found, reason, inl (run, q)))) =
     moved inputs task before now old new reply reply takes _ refl q
-    (run_answer inputs task outcome before now old new reply found accepted is (subst (λ h. IsReason task h old found) hash reason) (subst (λ h. IsKeptRun task h outcome before now old new reply) hash run))
-take_answer inputs task input outcome before now old new reply takes accepted is hash (inr (inr (found, reason, inr (same, p, q)))) =
+    (run_answer inputs task outcome before now old new reply found accepted digested is (subst (λ h. IsReason task h old found) hash reason) (subst (λ h. IsKeptRun task h outcome before now old new reply) hash run))
+take_answer inputs task input outcome before now old new reply takes accepted digested is hash (inr (inr (found, reason, inr (same, p, q)))) =
     nothing_answer inputs task before now old new reply takes accepted (memory_nothing before now old new reply takes p q same)
 
 -- an entry of another input hash is a reason to run

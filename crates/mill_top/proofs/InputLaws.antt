@@ -14,7 +14,7 @@ use Rattle.mill_top.specs.declared.outcome.Outcome.TheVariants.{Returns}
 use Rattle.mill_top.specs.declared.recorded.Record.{Record}
 use Rattle.mill_top.specs.SmallFiles.{constant}
 use Rattle.mill_top.specs.Builds.{class_files, task_among, task_in}
-use Rattle.mill_top.specs.Inputs.{nets, paths_and_bytes, whole_row, class_of, method_text, input_text, input_hash, Run, texts, Clean}
+use Rattle.mill_top.specs.Inputs.{nets, paths_and_bytes, whole_row, class_of, method_text, input_text, input_hash, Run, texts, Clean, IsDigested}
 use Rattle.mill_top.specs.Scratch.{scratch}
 
 length-net : (x r : List ℕ) → length (net x ++ r) ≡ length (decimal (length x)) + suc (length x + suc (length r))
@@ -26,15 +26,16 @@ part_within [] rest x = omega (arith, length-net x (nets rest))
 part_within (y ∷ front) rest x = omega (arith, length-net y (nets (front ++ x ∷ rest)), part_within front rest x)
 
 -- a list of texts is read back from its nets
-nets_same : (xs ys : List (List ℕ)) → length (nets xs) < 2 ^ 61 → length (nets ys) < 2 ^ 61 → nets xs ≡ nets ys → xs ≡ ys
-nets_same [] [] left right e = refl
-nets_same [] (y ∷ ys) left right e = absurd (omega (arith, length-net y (nets ys), ap length e))
-nets_same (x ∷ xs) [] left right e = absurd (omega (arith, length-net x (nets xs), ap length e))
-nets_same (x ∷ xs) (y ∷ ys) left right e =
+nets_same : (xs ys : List (List ℕ)) → length (nets xs) < 2 ^ 64 → nets xs ≡ nets ys → xs ≡ ys
+nets_same [] [] fits e = refl
+nets_same [] (y ∷ ys) fits e = absurd (omega (arith, length-net y (nets ys), ap length e))
+nets_same (x ∷ xs) [] fits e = absurd (omega (arith, length-net x (nets xs), ap length e))
+nets_same (x ∷ xs) (y ∷ ys) fits e =
     let first = length-net x (nets xs) in
     let second = length-net y (nets ys) in
-    let both = same_net x y (nets xs) (nets ys) (omega arith) (omega arith) e in
-    let rest = nets_same xs ys (omega arith) (omega arith) both.1 in
+    let same_length = ap length e in
+    let both = same_net x y (nets xs) (nets ys) (omega (arith, fits, first)) (omega (arith, fits, second, same_length)) e in
+    let rest = nets_same xs ys (omega (arith, fits, first)) both.1 in
     λ i. both.0 i ∷ rest i
 
 files_same : (a b : Files) → paths_and_bytes a ≡ paths_and_bytes b → a ≡ b
@@ -48,33 +49,32 @@ files_same (x ∷ a) (y ∷ b) e =
     let rest = files_same a b tail in
     λ i. (path i, bytes i) ∷ rest i
 
-rows_same : (r s : Record) → length (whole_row r) < 2 ^ 61 → length (whole_row s) < 2 ^ 61 → whole_row r ≡ whole_row s → class_files r.files ≡ class_files s.files
+rows_same : (r s : Record) → length (whole_row r) < 2 ^ 64 → whole_row r ≡ whole_row s → class_files r.files ≡ class_files s.files
 unfolding whole_row
-rows_same r s left right e =
-    let lists = nets_same (codes "W" ∷ paths_and_bytes (class_files r.files)) (codes "W" ∷ paths_and_bytes (class_files s.files)) left right e in
+rows_same r s fits e =
+    let lists = nets_same (codes "W" ∷ paths_and_bytes (class_files r.files)) (codes "W" ∷ paths_and_bytes (class_files s.files)) fits e in
     let tail : paths_and_bytes (class_files r.files) ≡ paths_and_bytes (class_files s.files) = cc in
     files_same (class_files r.files) (class_files s.files) tail
 
-methods_same : (r s : Record) (task : List ℕ) → length (method_text r task) < 2 ^ 61 → length (method_text s task) < 2 ^ 61
+methods_same : (r s : Record) (task : List ℕ) → length (method_text r task) < 2 ^ 64
     → method_text r task ≡ method_text s task → class_files r.files ≡ class_files s.files
 unfolding method_text
-methods_same r s task left right e =
+methods_same r s task fits e =
     let front_r : List (List ℕ) = codes "method1" ∷ class_of r task ∷ task ∷ codes "()I" ∷ [] in
     let front_s : List (List ℕ) = codes "method1" ∷ class_of s task ∷ task ∷ codes "()I" ∷ [] in
-    let lists : front_r ++ whole_row r ∷ [] ≡ front_s ++ whole_row s ∷ [] = nets_same (front_r ++ whole_row r ∷ []) (front_s ++ whole_row s ∷ []) left right e in
+    let lists : front_r ++ whole_row r ∷ [] ≡ front_s ++ whole_row s ∷ [] = nets_same (front_r ++ whole_row r ∷ []) (front_s ++ whole_row s ∷ []) fits e in
     let row : whole_row r ≡ whole_row s = cc in
-    let within_r = part_within front_r [] (whole_row r) in
-    let within_s = part_within front_s [] (whole_row s) in
-    rows_same r s (omega (arith, left, within_r)) (omega (arith, right, within_s)) row
+    let within = part_within front_r [] (whole_row r) in
+    rows_same r s (omega (arith, fits, within)) row
 
-hashes_same : (r s : Record) (task : List ℕ) → length (input_text r task) < 2 ^ 61 → length (input_text s task) < 2 ^ 61
+hashes_same : (r s : Record) (task : List ℕ) → length (input_text r task) < 2 ^ 64
     → input_text r task ≡ input_text s task → sha256 (method_text r task) ≡ sha256 (method_text s task)
 unfolding input_text
-hashes_same r s task left right e =
+hashes_same r s task fits e =
     let front : List (List ℕ) = codes "input1" ∷ task ∷ codes "cached" ∷ codes "10000000" ∷ [] in
     let hex_r = encode_lower (sha256 (method_text r task)) in
     let hex_s = encode_lower (sha256 (method_text s task)) in
-    let lists : front ++ hex_r ∷ [] ≡ front ++ hex_s ∷ [] = nets_same (front ++ hex_r ∷ []) (front ++ hex_s ∷ []) left right e in
+    let lists : front ++ hex_r ∷ [] ≡ front ++ hex_s ∷ [] = nets_same (front ++ hex_r ∷ []) (front ++ hex_s ∷ []) fits e in
     let same : hex_r ≡ hex_s = cc in
     same_hex (sha256 (method_text r task)) (sha256 (method_text s task)) (IsDigest-sha256 (method_text r task)) (IsDigest-sha256 (method_text s task)) same
 
@@ -92,20 +92,20 @@ in_texts (one ∷ runs) run text (suc k, within, is) inside =
     Contains-append_right (texts one) (flat_map texts runs) text (in_texts runs run text (k, omega arith, is) inside)
 
 -- two runs of a task with equal input hashes have equal outcomes from scratch
-pub same_scratch : (all : List Run) (one other : Run) → Clean (flat_map texts all) → Contains all one → Contains all other → one.task ≡ other.task
+pub same_scratch : (all : List Run) (one other : Run) → Clean (flat_map texts all) → Contains all one → Contains all other → IsDigested one.inputs one.task → one.task ≡ other.task
     → input_hash one.inputs one.task ≡ input_hash other.inputs other.task → scratch one.inputs one.task ≡ scratch other.inputs other.task
 unfolding input_hash task_in
-same_scratch all one other clean has_one has_other same_task e =
+same_scratch all one other clean has_one has_other digested same_task e =
     let task = one.task in
     let run : Run = record { inputs = other.inputs; task = task } in
     let has_run : Contains all run = subst (Contains all) (λ i. record { inputs = other.inputs; task = sym same_task i }) has_other in
     let hash : sha256 (input_text one.inputs task) ≡ sha256 (input_text other.inputs task) = e ∙ ap (λ t. sha256 (input_text other.inputs t)) (sym same_task) in
     let in_one = in_texts all one (input_text one.inputs task) has_one (has_input one) in
     let in_other = in_texts all run (input_text other.inputs task) has_run (has_input run) in
-    let inputs = clean.apart (input_text one.inputs task) (input_text other.inputs task) in_one in_other hash in
-    let methods = hashes_same one.inputs other.inputs task (clean.messages _ in_one) (clean.messages _ in_other) inputs in
+    let inputs = clean (input_text one.inputs task) (input_text other.inputs task) in_one in_other hash in
+    let methods = hashes_same one.inputs other.inputs task digested.input inputs in
     let m_one = in_texts all one (method_text one.inputs task) has_one (has_method one) in
     let m_other = in_texts all run (method_text other.inputs task) has_run (has_method run) in
-    let method = clean.apart (method_text one.inputs task) (method_text other.inputs task) m_one m_other methods in
-    let classes = methods_same one.inputs other.inputs task (clean.messages _ m_one) (clean.messages _ m_other) method in
+    let method = clean (method_text one.inputs task) (method_text other.inputs task) m_one m_other methods in
+    let classes = methods_same one.inputs other.inputs task digested.method method in
     ap (λ cs. option_map (λ (f : SmallFile). Returns (constant f.opcode) []) (task_among cs task)) classes ∙ ap (scratch other.inputs) same_task

@@ -15,7 +15,7 @@ use Rattle.mill_top.specs.declared.takes.Found.{Found}
 use Rattle.mill_top.specs.declared.takes.Found.TheVariants.{Missing, Other, Same}
 use Rattle.mill_top.specs.Builds.{not_built}
 use Rattle.mill_top.specs.Words.{asked}
-use Rattle.mill_top.specs.Inputs.{Run, texts, Clean, input_hash}
+use Rattle.mill_top.specs.Inputs.{Run, texts, Clean, IsDigested, input_hash}
 use Rattle.mill_top.specs.Scratch.{scratch}
 use Rattle.mill_top.specs.Takes.{IsWhy, Gives}
 use Rattle.mill_top.specs.Replies.{refusal_by, refusal, reply_by, words_reply, reply_of}
@@ -32,6 +32,7 @@ memory_answer inputs task before now old new reply takes h = record {
   evaluated = accepted (refusal inputs task);
   cause = λ e. cc;
   value = λ value e. cc;
+  digested = λ value e. cc;
   why = h.why;
   out = λ value e. cc;
   left = h.left;
@@ -83,19 +84,19 @@ shown_unread words before now old new reply own takes is h = record {
 
 -- a value that a take gives is that from scratch
 pub value_from_scratch : (content : Option Files) (runs : List Run) (lost : List (List ℕ)) (inputs : Record) (task : List ℕ) (found : Found) (value : ℤ)
-    → StandsIn content runs lost → Clean (all_texts inputs task runs) → IsWhy inputs content (task, found) → Gives inputs content task found value
+    → StandsIn content runs lost → Clean (all_texts inputs task runs) → IsDigested inputs task → IsWhy inputs content (task, found) → Gives inputs content task found value
     → (log : List ℕ) × (scratch inputs task ≡ Some (Returns value log))
-value_from_scratch content runs lost inputs task Missing value stands clean why gives = gives
-value_from_scratch content runs lost inputs task (Other d) value stands clean why gives = gives
-value_from_scratch None runs lost inputs task (Same d) value stands clean why gives = absurd stands
-value_from_scratch (Some files) runs lost inputs task (Same d) value stands clean why gives =
+value_from_scratch content runs lost inputs task Missing value stands clean digested why gives = gives
+value_from_scratch content runs lost inputs task (Other d) value stands clean digested why gives = gives
+value_from_scratch None runs lost inputs task (Same d) value stands clean digested why gives = absurd stands
+value_from_scratch (Some files) runs lost inputs task (Same d) value stands clean digested why gives =
     let entry : Entry = record { input = d; value = value } in
     let own = stands.entries task entry gives in
     let run : Run = own.0 in
     let here : Run = record { inputs = inputs; task = task } in
     let all : List Run = here ∷ runs in
     let hash : input_hash inputs task ≡ input_hash run.inputs run.task = sym why.0 ∙ own.3.input in
-    let same = same_scratch all here run clean (0, omega arith, refl) (Contains-append_right (here ∷ []) runs run own.1) (sym own.2) hash in
+    let same = same_scratch all here run clean (0, omega arith, refl) (Contains-append_right (here ∷ []) runs run own.1) digested (sym own.2) hash in
     (own.3.value.0, same ∙ own.3.value.1)
 
 reply_scratch : (task : List ℕ) (nb : Option (List ℕ)) (sc : Option Outcome) (reply : Reply) (takes : List (List ℕ × Found))
@@ -128,7 +129,7 @@ from_scratch words inputs before now old new reply takes runs lost task same_wor
     let value : (value : ℤ) → reply ≡ Value value → (log : List ℕ) × (scratch inputs task ≡ Some (Returns value log)) = λ value is.
     let v = h.value value is in
     let why : AllByRecursion (IsWhy inputs old) ((task, v.found) ∷ []) = subst (AllByRecursion (IsWhy inputs old)) v.one h.why in
-    value_from_scratch old runs lost inputs task v.found value stands clean why.0 v.gives in
+    value_from_scratch old runs lost inputs task v.found value stands clean (h.digested value is) why.0 v.gives in
     elim (reply_scratch task (not_built inputs.files) (scratch inputs task) reply takes h.refused h.evaluated value) [
       | inl is ↦ inl (is ∙ ap (words_reply inputs) (sym asks ∙ ap asked (sym same_words)))
       | inr other ↦ inr other

@@ -13,7 +13,7 @@ use Rattle.mill_top.specs.declared.takes.Found.{Found}
 use Rattle.mill_top.specs.declared.takes.Found.TheVariants.{Same}
 use Rattle.mill_top.specs.Words.{asked}
 use Rattle.mill_top.specs.Entries.{entry_name, Reads}
-use Rattle.mill_top.specs.Inputs.{Run, texts}
+use Rattle.mill_top.specs.Inputs.{Run, texts, IsDigested}
 use Rattle.mill_top.specs.Takes.{Why, IsNew, IsWhy, Gives, runs_of}
 use Rattle.mill_top.specs.Out.{log_of, with_run, MayLeaveRun, after_takes, MayLeave}
 use Rattle.mill_top.specs.Replies.{refusal, reply_of}
@@ -56,6 +56,7 @@ pub record IsAnswer (inputs : Record) (task : List ℕ) (before now : ℕ) (old 
   pub evaluated : IfNone (refusal inputs task) (IsEvaluation reply)
   pub cause : reply ≡ StoreFault → Rose before now
   pub value : (value : ℤ) → reply ≡ Value value → IsValue inputs task old takes value
+  pub digested : (value : ℤ) → reply ≡ Value value → IsDigested inputs task
   -- each take has the reason that the store gives
   pub why : AllByRecursion (IsWhy inputs old) takes
   pub out : (value : ℤ) → reply ≡ Value value → new ≡ after_takes inputs takes old

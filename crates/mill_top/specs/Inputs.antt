@@ -45,8 +45,11 @@ pub record Run : Type 0 where
 abbrev pub texts : Run → List (List ℕ)
 texts run = method_text run.inputs run.task ∷ input_text run.inputs run.task ∷ []
 
--- No collision: the texts are messages of SHA-256, which are shorter than 2^64 bits (FIPS 180-4), and two of them with
--- equal digests are equal.
-pub record Clean (all : List (List ℕ)) : Type 0 where
-  pub messages : (text : List ℕ) → Contains all text → length text < 2 ^ 61
-  pub apart : (a b : List ℕ) → Contains all a → Contains all b → sha256 a ≡ sha256 b → a ≡ b
+-- no collision: two of the texts with equal digests are equal
+abbrev pub Clean : List (List ℕ) → Type 0
+Clean all = (a b : List ℕ) → Contains all a → Contains all b → sha256 a ≡ sha256 b → a ≡ b
+
+-- the texts that are digested for a task were held in memory, so that their lengths are numbers of 64 bits
+pub record IsDigested (inputs : Record) (task : List ℕ) : Type 0 where
+  pub method : length (method_text inputs task) < 2 ^ 64
+  pub input : length (input_text inputs task) < 2 ^ 64

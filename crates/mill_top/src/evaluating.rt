@@ -8,7 +8,7 @@ ghost use Rattle.mill_top.specs.declared.entry.Entry.{Entry};
 ghost use Rattle.mill_top.specs.declared.takes.Found.{Found};
 ghost use Rattle.mill_top.specs.Builds.{task_in, not_built};
 ghost use Rattle.mill_top.specs.Entries.{entry_name, log_name, IsFound, IsNamed, IsWellFormed};
-ghost use Rattle.mill_top.specs.Inputs.{input_hash};
+ghost use Rattle.mill_top.specs.Inputs.{input_hash, IsDigested};
 ghost use Rattle.mill_top.specs.SmallFiles.{constant};
 ghost use Rattle.mill_top.specs.Answers.{IsAnswer, IsEvaluation, IsReuse, IsKeptRun, IsRun, IsTake};
 ghost use Rattle.tree_value.specs.Paths.{IsPath};
@@ -124,6 +124,7 @@ fn prepare(
     requires { task_in inputs.now.files task.now ≡ Some class_file }
     ensures task { IfOk result (λ job. job.task ≡ task.now) }
     ensures input { IfOk result (λ job. job.input ≡ input_hash inputs.now task.now) }
+    ensures digested { OnOk result (IsDigested inputs.now task.now) }
     ensures names { IfOk result (λ job. IsNamed job.task job.entry job.log) }
 {
     Ok(Job {

@@ -1,9 +1,10 @@
 //! The input hash of a task.
 
-ghost use Rattle.std.specs.Prelude.{◌≡◌, ◌++◌, ◌∷◌, [], Some, IfOk, OnOk};
+ghost use Rattle.std.specs.Prelude.{◌≡◌, ◌++◌, ◌∷◌, [], Some, IfOk, OnOk, ◌<◌, ◌^◌, length};
+ghost use Rattle.sha2.specs.Sha256.{sha256};
 ghost use Rattle.tree_value.specs.Nets.{net};
 ghost use Rattle.mill_top.specs.Builds.{task_in};
-ghost use Rattle.mill_top.specs.Inputs.{whole_row, method_text, input_text, input_hash};
+ghost use Rattle.mill_top.specs.Inputs.{whole_row, method_text, input_text, input_hash, IsDigested};
 
 use crate::builds::is_class_path;
 use crate::class_file::SmallFile;
@@ -54,12 +55,35 @@ fn method_text(alloc: Global, inputs: &Record, class_file: SmallFile) -> Result<
     Ok(text)
 }
 
+// A text in memory has a length of 64 bits.
+fn prove_fits(text: &[u8])
+    ensures { length text.now < 2 ^ 64 }
+{
+    let _len = text.len();
+}
+
+// The digest of the method's text.
+fn method_hash(
+    alloc: Global,
+    inputs: &Record,
+    class_file: SmallFile,
+) -> Result<[u8; 32], AllocError>
+    requires { task_in inputs.now.files (class_file.task ∷ []) ≡ Some class_file }
+    ensures hash { IfOk result (λ hash. hash ≡ sha256 (method_text inputs.now (class_file.task ∷ []))) }
+    ensures fits { OnOk result (length (method_text inputs.now (class_file.task ∷ [])) < 2 ^ 64) }
+{
+    let text = method_text(alloc, inputs, class_file)?;
+    prove_fits(text.as_slice());
+    Ok(Sha256::digest(text.as_slice()))
+}
+
 #[tactic(auto, unfolding(crate::specs::Inputs::input_text))]
 fn input_text(alloc: Global, inputs: &Record, class_file: SmallFile) -> Result<Vec<u8>, AllocError>
     requires { task_in inputs.now.files (class_file.task ∷ []) ≡ Some class_file }
-    ensures { IfOk result (λ text. text.items ≡ input_text inputs.now (class_file.task ∷ [])) }
+    ensures text { IfOk result (λ text. text.items ≡ input_text inputs.now (class_file.task ∷ [])) }
+    ensures method { OnOk result (length (method_text inputs.now (class_file.task ∷ [])) < 2 ^ 64) }
 {
-    let method = Sha256::digest(method_text(alloc, inputs, class_file)?.as_slice());
+    let method = method_hash(alloc, inputs, class_file)?;
     let hash = hex::encode(alloc, method)?;
     let mut text = Vec::new(alloc);
     push_net(&mut text, alloc, b"input1")?;
@@ -78,8 +102,10 @@ pub fn input_hash(
     class_file: SmallFile,
 ) -> Result<Digest, AllocError>
     requires { task_in inputs.now.files (class_file.task ∷ []) ≡ Some class_file }
-    ensures { IfOk result (λ hash. hash ≡ input_hash inputs.now (class_file.task ∷ [])) }
+    ensures hash { IfOk result (λ hash. hash ≡ input_hash inputs.now (class_file.task ∷ [])) }
+    ensures digested { OnOk result (IsDigested inputs.now (class_file.task ∷ [])) }
 {
     let text = input_text(alloc, inputs, class_file)?;
+    prove_fits(text.as_slice());
     Ok(Digest::of(Sha256::digest(text.as_slice())))
 }

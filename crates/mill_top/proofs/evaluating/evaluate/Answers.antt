@@ -14,7 +14,7 @@ returns-in-Ok-clause-answer g c =
     let ok = accepted c.args.inputs.now c.args.task.now c.args.class_file c.requires.built c.requires.known in
     let take = subst (λ task. IsTake task c.in-Ok.job.input (Returns (constant c.args.class_file.opcode) []) (g.S.Store.faults c.args.store.now) (g.S.Store.faults c.take.new.store)
     (g.S.Store.content c.args.store.now) (g.S.Store.content c.take.new.store) c.take.result.reply c.take.result.takes) c.in-Ok.ensures.task c.take.ensures.take in
-    take_answer c.args.inputs.now c.args.task.now c.in-Ok.job.input _ _ _ _ _ _ _ ok.0 ok.1 c.in-Ok.ensures.input take
+    take_answer c.args.inputs.now c.args.task.now c.in-Ok.job.input _ _ _ _ _ _ _ ok.0 c.in-Ok.ensures.digested ok.1 c.in-Ok.ensures.input take
 
 pub returns-in-Err-clause-answer : goal.returns-in-Err-clause-answer
 returns-in-Err-clause-answer g c =
