@@ -4,3 +4,4 @@ mod decoding;
 mod externals;
 mod instructions;
 mod natives;
+mod operations;
