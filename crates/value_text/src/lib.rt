@@ -1,0 +1,4 @@
+//! The texts of values.
+#![tactic(auto)]
+
+pub fn nothing() {}
