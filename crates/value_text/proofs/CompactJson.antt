@@ -1,24 +1,23 @@
 -- Reading the compact text of a JSON value gives that value back.
-use Rattle.std.proofs.Common.{◌≡◌, ℕ, zero, suc, ◌+◌, ◌-◌, ◌^◌, ◌<◌, ◌≤◌, max, ℤ, pos, negsuc, List, [], ◌∷◌, ◌++◌, Bool, Option, Some, None, option_map, option_and_then, Ordering, Less, Equal, Greater, refl, sym, ap, ap₂, ◌∙◌, subst, inl, inr, arith, append-nil, append_assoc}
+use Rattle.std.proofs.Common.{◌≡◌, ℕ, suc, ◌^◌, ◌<◌, ◌≤◌, max, pos, negsuc, List, [], ◌∷◌, Bool, true, false, IsUtf8, Option, Some, option_map, option_and_then, Less, Greater, refl, sym, ap, ap₂, ◌∙◌, subst, arith, append-nil}
 use Rattle.std.specs.Prelude.{⊤}
-use Rattle.std.specs.Ordering.{nat_cmp, match_ordering, ordering_reverse}
+use Rattle.std.specs.Ordering.{nat_cmp, ordering_reverse}
 use Rattle.std.specs.Cmp.Lexicographic.{slice_cmp}
-use Rattle.std.specs.Fmt.{digits, signed_decimal}
-use Rattle.std.proofs.lemmas.Bool.{cases_lt, cases_eq}
 use Rattle.std.proofs.lemmas.Cmp.{nat_list_cmp_total}
-use lib.Signed.{mag}
 use Rattle.json.specs.Lex.{tokens}
 use Rattle.json.specs.Json as json
 use Rattle.json.specs.Tree as tree
 use Rattle.json.specs.Tree.{json_tokens, HasNumbers, ItemsHaveNumbers, MembersHaveNumbers}
-use Rattle.json.specs.Print.{IsNumber, print}
-use Rattle.json.proofs.OnLiterals.{json_on_literals}
+use Rattle.json.specs.Print.{IsNumber, quoted}
+use Rattle.json.proofs.Printed.Utf8.{IsUtf8-are_ascii, IsUtf8-boolean, IsUtf8-quoted}
+use Rattle.std.proofs.lemmas.Str.{IsUtf8-append, IsUtf8-nil, IsUtf8-from_ascii}
+use Rattle.std.proofs.lemmas.Fmt.{IsAscii-decimal, IsAscii-signed}
 use Rattle.json.proofs.Printed.Tokens.{tokens-print}
 use Rattle.json.proofs.Printed.Trees.{value-json_tokens, ArePrintable-json_tokens}
 use Rattle.json.proofs.Printed.Decimals.{IsNumber-decimal, IsNumber-signed_decimal}
 use Rattle.serde_json.specs.Data.{Num, unsigned, negative, float, Data, null, boolean, number, string, array, object, Items, no_items, item, Members, no_members, member, put, depth, items_depth, members_depth}
 use Rattle.serde_json.specs.Read.{read, max_depth, number_of, of_json, of_items, of_members}
-use Rattle.serde_json.specs.Written.{number_text, outline, items_outline, members_outline, compact_text}
+use Rattle.serde_json.specs.Written.{number_text, comma_if, items_text, members_text, outline, items_outline, members_outline, compact_text}
 use Rattle.serde_json.proofs.Numbers.{number_of-decimal, number_of-negative}
 use Rattle.serde_json.proofs.Texts.{print-outline}
 
@@ -34,6 +33,24 @@ IsPlainNumber (float x) = ⊥
 abbrev pub IsBelow : List ℕ → Members → Type 0
 IsBelow k no_members = ⊤
 IsBelow k (member l d ms) = slice_cmp nat_cmp k l ≡ Less
+
+-- each text in it, keys too, is UTF-8
+abbrev mutual
+  pub HasUtf8 : Data → Type 0
+  HasUtf8 null = ⊤
+  HasUtf8 (boolean b) = ⊤
+  HasUtf8 (number n) = ⊤
+  HasUtf8 (string s) = IsUtf8 s
+  HasUtf8 (array ds) = ItemsHaveUtf8 ds
+  HasUtf8 (object ms) = MembersHaveUtf8 ms
+
+  pub ItemsHaveUtf8 : Items → Type 0
+  ItemsHaveUtf8 no_items = ⊤
+  ItemsHaveUtf8 (item d ds) = HasUtf8 d × ItemsHaveUtf8 ds
+
+  pub MembersHaveUtf8 : Members → Type 0
+  MembersHaveUtf8 no_members = ⊤
+  MembersHaveUtf8 (member k d ms) = IsUtf8 k × HasUtf8 d × MembersHaveUtf8 ms
 
 abbrev mutual
   pub IsPlain : Data → Type 0
@@ -54,17 +71,10 @@ abbrev mutual
 
 -- ---- numbers
 
-least : IsNumber (signed_decimal (negsuc (2 ^ 63 - 1)))
-unfolding json_on_literals digits
-least = refl
-
 IsNumber-number_text : (n : Num) → IsPlainNumber n → IsNumber (number_text n)
 IsNumber-number_text (unsigned n) h = IsNumber-decimal n h
 IsNumber-number_text (negative (pos n)) h = absurd h
-IsNumber-number_text (negative (negsuc n)) h = elim (cases_eq n (2 ^ 63 - 1)) [
-  | inl same ↦ subst (λ (m : ℕ). IsNumber (signed_decimal (negsuc m))) (sym same) least
-  | inr other ↦ IsNumber-signed_decimal (negsuc n) (omega arith)
-]
+IsNumber-number_text (negative (negsuc n)) h = IsNumber-signed_decimal (negsuc n) h
 IsNumber-number_text (float x) h = absurd h
 
 number_of-number_text : (n : Num) → IsPlainNumber n → number_of (number_text n) ≡ Some n
@@ -184,9 +194,57 @@ mutual
 tokens-compact_text : (d : Data) → IsPlain d → tokens (compact_text d) ≡ json_tokens (outline d)
 tokens-compact_text d h = ap tokens (sym (print-outline d)) ∙ tokens-print _ (ArePrintable-json_tokens (outline d) (HasNumbers-outline d h))
 
-pub read-compact_text : (d : Data) → IsPlain d → depth d ≤ max_depth → read (compact_text d) ≡ Some d
-read-compact_text d h shallow =
+-- the value of a text that nests no deeper than the number
+abbrev read_within : ℕ → List ℕ → Option Data
+read_within deep text = option_and_then of_json (option_and_then (λ p. json.if_last p.0 p.1) (json.value deep (tokens text)))
+
+read_to : (deep : ℕ) (d : Data) → IsPlain d → depth d ≤ deep → read_within deep (compact_text d) ≡ Some d
+read_to deep d h shallow =
     ap (λ o. option_and_then of_json (option_and_then (λ p. json.if_last p.0 p.1) o))
-    (ap (json.value max_depth) (tokens-compact_text d h ∙ sym (append-nil _))
-    ∙ value-json_tokens (outline d) max_depth [] (subst (λ (n : ℕ). n ≤ max_depth) (sym (depth-outline d)) shallow))
+    (ap (json.value deep) (tokens-compact_text d h ∙ sym (append-nil _))
+    ∙ value-json_tokens (outline d) deep [] (subst (λ (n : ℕ). n ≤ deep) (sym (depth-outline d)) shallow))
     ∙ of_json-outline d h
+
+pub read-compact_text : (d : Data) → IsPlain d → depth d ≤ max_depth → read (compact_text d) ≡ Some d
+read-compact_text d h shallow = read_to max_depth d h shallow
+
+-- a text has one value
+pub compact_text-injective : (d e : Data) → IsPlain d → IsPlain e → compact_text d ≡ compact_text e → d ≡ e
+compact_text-injective d e plain other same =
+    let deep = max (depth d) (depth e) in
+    let first = read_to deep d plain (omega arith) in
+    let second = read_to deep e other (omega arith) in
+    let both : Some d ≡ Some e = sym first ∙ ap (read_within deep) same ∙ second in
+    cc
+
+-- ---- UTF-8
+
+IsUtf8-number_text : (n : Num) → IsPlainNumber n → IsUtf8 (number_text n)
+IsUtf8-number_text (unsigned n) h = IsUtf8-from_ascii _ (IsAscii-decimal n h)
+IsUtf8-number_text (negative (pos n)) h = absurd h
+IsUtf8-number_text (negative (negsuc n)) h = IsUtf8-from_ascii _ (IsAscii-signed (negsuc n) h)
+IsUtf8-number_text (float x) h = absurd h
+
+IsUtf8-comma_if : (b : Bool) → IsUtf8 (comma_if b)
+IsUtf8-comma_if true = IsUtf8-are_ascii _ refl
+IsUtf8-comma_if false = IsUtf8-nil
+
+mutual
+  pub IsUtf8-compact_text : (d : Data) → IsPlain d → HasUtf8 d → IsUtf8 (compact_text d)
+  IsUtf8-compact_text null h texts = IsUtf8-are_ascii _ refl
+  IsUtf8-compact_text (boolean b) h texts = IsUtf8-boolean b
+  IsUtf8-compact_text (number n) h texts = IsUtf8-number_text n h
+  IsUtf8-compact_text (string s) h texts = IsUtf8-quoted s texts
+  IsUtf8-compact_text (array ds) h texts = IsUtf8-append (91 ∷ []) _ (IsUtf8-are_ascii _ refl) (IsUtf8-items_text false ds h texts)
+  IsUtf8-compact_text (object ms) h texts = IsUtf8-append (123 ∷ []) _ (IsUtf8-are_ascii _ refl) (IsUtf8-members_text false ms h texts)
+
+  IsUtf8-items_text : (later : Bool) (ds : Items) → ArePlainItems ds → ItemsHaveUtf8 ds → IsUtf8 (items_text later ds)
+  IsUtf8-items_text later no_items h texts = IsUtf8-are_ascii _ refl
+  IsUtf8-items_text later (item d ds) h texts =
+      IsUtf8-append (comma_if later) _ (IsUtf8-comma_if later) (IsUtf8-append _ _ (IsUtf8-compact_text d h.0 texts.0) (IsUtf8-items_text true ds h.1 texts.1))
+
+  IsUtf8-members_text : (later : Bool) (ms : Members) → ArePlainMembers ms → MembersHaveUtf8 ms → IsUtf8 (members_text later ms)
+  IsUtf8-members_text later no_members h texts = IsUtf8-are_ascii _ refl
+  IsUtf8-members_text later (member k d ms) h texts =
+      IsUtf8-append (comma_if later) _ (IsUtf8-comma_if later) (IsUtf8-append (quoted k) _ (IsUtf8-quoted k texts.0) (IsUtf8-append (58 ∷ []) _ (IsUtf8-are_ascii _ refl)
+      (IsUtf8-append _ _ (IsUtf8-compact_text d h.0 texts.1) (IsUtf8-members_text true ms h.2 texts.2))))

@@ -1,0 +1,4 @@
+pub mod Short
+pub mod Texts
+pub mod Decoded
+pub mod Stores
