@@ -1,0 +1,38 @@
+-- Reading bytes from the left, with the first fault that is met. A reader is given where the bytes end in the file, so
+-- that the place of a fault follows from the bytes that are left there.
+use Rattle.std.specs.Prelude.{◌≡◌, ℕ, ◌-◌, ◌+◌, ◌<◌, ◌^◌, Bool, List, ◌++◌, length, take, drop, Option, Some, None, Result, Ok, Err, nat_lt, slice_index, if◌then◌else◌}
+use Rattle.std.specs.Int.{Width, byte_len, from_be_bytes}
+
+-- a bad place, with its cause
+pub data Fault : Type 0 where
+  cut_short : ℕ → Fault
+  bad_tag : ℕ → ℕ → Fault
+  bad_text : ℕ → Fault
+  bad_index : ℕ → Fault
+
+abbrev pub Reading : Type 0 → Type 0
+Reading A = Result (A × List ℕ) Fault
+
+infixl 10 ◌>>=◌
+abbrev pub ◌>>=◌ : {A B : Type 0} → Result A Fault → (A → Result B Fault) → Result B Fault
+(Ok x) >>= f = f x
+(Err e) >>= f = Err e
+
+-- the place of bytes that go on to the end
+abbrev pub place : ℕ → List ℕ → ℕ
+place end bytes = end - length bytes
+
+-- the number at the front, where enough bytes are left
+abbrev pub number_at : Width → List ℕ → Option (ℕ × List ℕ)
+number_at w bytes =
+    if nat_lt (length bytes) (byte_len w) then None
+    else Some (from_be_bytes w (take (byte_len w) bytes), drop (byte_len w) bytes)
+
+-- a cut at a place where nothing was read
+abbrev pub or_cut : {A : Type 0} → ℕ → Option A → Result A Fault
+or_cut at None = Err (cut_short at)
+or_cut at (Some x) = Ok x
+
+-- bytes are below 256
+abbrev pub IsBytes : List ℕ → Type 0
+IsBytes bytes = (i : ℕ) → slice_index bytes i < 2 ^ 8
