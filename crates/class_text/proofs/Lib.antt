@@ -1,3 +1,4 @@
 pub mod Numbers
 pub mod Constants
 pub mod Pools
+pub mod Places

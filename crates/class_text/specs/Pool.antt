@@ -1,12 +1,12 @@
 -- The first bad place of a constant pool (JVMS 4.4).
-use Rattle.std.specs.Prelude.{◌≡◌, ℕ, zero, suc, ◌+◌, ◌-◌, Bool, true, false, not, ◌&&◌, ◌||◌, ◌==◌, nat_lt, nat_le, List, [], ◌∷◌, ◌++◌, length, take, drop, Option, Some, None, option_map, option_and_then, Result, Ok, Err, if◌then◌else◌}
-use Rattle.std.specs.List.{list_any}
-use Rattle.std.specs.Int.{Width, w16, w32, w64}
+use Rattle.std.specs.Prelude.{◌≡◌, ◌⊎◌, ℕ, zero, suc, ◌+◌, ◌-◌, Bool, true, false, not, ◌&&◌, ◌||◌, ◌==◌, nat_lt, nat_le, List, [], ◌∷◌, ◌++◌, length, take, drop, Option, Some, None, option_map, option_and_then, Result, Ok, Err, if◌then◌else◌}
+use Rattle.std.specs.List.{flat_map, AllByRecursion}
+use Rattle.std.specs.Int.{Width, to_be_bytes, w16, w32, w64}
 use Rattle.class_model.specs.declared.constant_pool.Constant.{Constant}
 use Rattle.class_model.specs.declared.constant_pool.Constant.TheVariants.{Utf8, Integer, Float, Long, Double, Class, Text, Ref, NameType, Handle, MethodType, InvokeDynamic, Second}
 use Rattle.class_model.specs.declared.constant_pool.Pool.{Pool}
 use Rattle.class_model.specs.Units.{is_text}
-use Rattle.class_model.specs.Constants.{has_targets, takes_two}
+use Rattle.class_model.specs.Constants.{IsConstant, has_targets, takes_two}
 use Rattle.class_model.specs.Spelling as spelling
 use Rattle.class_text.specs.Reading.{Fault, cut_short, bad_tag, bad_text, bad_index, Reading, ◌>>=◌, place, number_at, or_cut}
 
@@ -100,3 +100,13 @@ counted_at end at count =
 -- the pool at the front of bytes that go on to the end of the file, or the first bad place
 unfoldable pub pool_at : ℕ → List ℕ → Reading Pool
 pool_at end bytes = or_cut (place end bytes) (number_at w16 bytes) >>= counted_at end (place end bytes)
+
+-- Constants that are good by themselves stand before a place, and behind the count, if it isn't the count's own.
+pub record IsBehind (end : ℕ) (bytes : List ℕ) (at count : ℕ) (good : List Constant) (rest : List ℕ) : Type 0 where
+  pub spelled : bytes ≡ to_be_bytes w16 count ++ flat_map spelling.constant good ++ rest
+  pub fit : AllByRecursion IsConstant good
+  pub here : at ≡ place end rest
+
+abbrev pub OnlyGoodBefore : ℕ → List ℕ → ℕ → Type 0
+OnlyGoodBefore end bytes at =
+    (at ≡ place end bytes) ⊎ ((count : ℕ) × (good : List Constant) × (rest : List ℕ) × IsBehind end bytes at count good rest)

@@ -10,6 +10,12 @@ pub data Fault : Type 0 where
   bad_text : ℕ → Fault
   bad_index : ℕ → Fault
 
+abbrev pub place_of : Fault → ℕ
+place_of (cut_short at) = at
+place_of (bad_tag at tag) = at
+place_of (bad_text at) = at
+place_of (bad_index at) = at
+
 abbrev pub Reading : Type 0 → Type 0
 Reading A = Result (A × List ℕ) Fault
 

@@ -1,11 +1,11 @@
 //! The laws that tie reading to the grammar.
 
-ghost use Rattle.std.specs.Prelude.{◌≡◌, ◌++◌, ℕ, List, Ok};
+ghost use Rattle.std.specs.Prelude.{◌≡◌, ◌++◌, ◌≤◌, ℕ, List, length, Ok, Err};
 ghost use Rattle.class_model.specs.declared.constant_pool.Pool.{Pool};
 ghost use Rattle.class_model.specs.Constants.{IsPool};
 ghost use Rattle.class_model.specs.Spelling as spelling;
-ghost use Rattle.class_text.specs.Reading.{IsBytes};
-ghost use Rattle.class_text.specs.Pool.{pool_at};
+ghost use Rattle.class_text.specs.Reading.{Fault, place_of, IsBytes};
+ghost use Rattle.class_text.specs.Pool.{pool_at, OnlyGoodBefore};
 
 /// A pool that is read is spelled by the bytes that it takes, and each spelling of a pool is read, whatever follows. So
 /// bytes begin with the text of at most one pool.
@@ -13,5 +13,13 @@ pub fn pool_laws()
     ensures taken { (end : ℕ) (bytes : List ℕ) (p : Pool) (rest : List ℕ) → IsBytes bytes → pool_at end bytes ≡ Ok (p, rest)
         → IsPool p × (bytes ≡ spelling.pool p ++ rest) }
     ensures again { (end : ℕ) (p : Pool) (rest : List ℕ) → IsPool p → pool_at end (spelling.pool p ++ rest) ≡ Ok (p, rest) }
+{
+}
+
+/// Before the place of a fault only constants stand that are good by themselves, behind the count, unless the fault is
+/// the count's own.
+pub fn place_law()
+    ensures { (end : ℕ) (bytes : List ℕ) (fault : Fault) → IsBytes bytes → length bytes ≤ end → pool_at end bytes ≡ Err fault
+        → OnlyGoodBefore end bytes (place_of fault) }
 {
 }
