@@ -1,19 +1,18 @@
 -- A constant that is read is spelled so, and what is spelled so is read.
-use Rattle.std.proofs.Common.{◌≡◌, ℕ, zero, suc, eqb, ltb, leb, ◌+◌, ◌^◌, ◌<◌, ◌≤◌, ◌⊎◌, Bool, true, false, not, ◌&&◌, ◌||◌, cond, List, [], ◌∷◌, ◌++◌, length, take, drop, Option, Some, None, option_map, option_and_then, Result, Ok, Err, IsTrue, refl, sym, ap, subst, ◌∙◌, append_assoc, arith, inl, inr}
+use Rattle.std.proofs.Common.{◌≡◌, ℕ, eqb, ltb, ◌^◌, ◌<◌, ◌≤◌, ◌⊎◌, true, false, ◌&&◌, List, [], ◌∷◌, ◌++◌, length, take, drop, Option, Some, None, option_map, option_and_then, Ok, Err, refl, sym, ap, subst, ◌∙◌, append_assoc, arith, inl, inr}
 use Rattle.std.specs.Int.{Width, w16, w32, w64, to_be_bytes}
 use Rattle.std.proofs.lemmas.Bool.{cases_Bool, eqb-true, eqb-false, ltb-false, le-ltb, and_cases, or_left, or_right}
 use Rattle.std.proofs.lemmas.Bool.Decides.{nat_tests}
 use Rattle.std.proofs.lemmas.List.{take_at, drop_at, take-append-drop, length-append, length-take}
 use Rattle.class_model.specs.declared.constant_pool.Constant.{Constant}
 use Rattle.class_model.specs.declared.constant_pool.Constant.TheVariants.{Utf8, Integer, Float, Long, Double, Class, Text, Ref, NameType, Handle, MethodType, InvokeDynamic, Second}
-use Rattle.class_model.specs.ModifiedUtf8.{IsModifiedUtf8}
 use Rattle.class_model.specs.Units.{is_text}
 use Rattle.class_model.specs.Constants.{IsConstant, takes_two, is_second}
 use Rattle.class_model.specs.Spelling.{constant}
 use Rattle.class_model.proofs.TextLemmas.{is_text-grammar}
 use Rattle.class_text.specs.Reading.{cut_short, bad_tag, bad_text, ◌>>=◌, place, number_at, or_cut, IsBytes}
 use Rattle.class_text.specs.Pool.{of_one, of_two, handle_at, fixed_at, is_tag, is_wide, text_of, utf8_at, constant_at}
-use Rattle.class_text.proofs.Numbers.{IsBytes-take, IsBytes-drop, IsBytes-rest, bind_ok, ok_is, some_is, Takes, Takes-then, Takes-behind, IsWide, wide16, wide32, wide64, number_takes, number_again}
+use Rattle.class_text.proofs.Numbers.{IsBytes-drop, IsBytes-rest, ok_is, some_is, Takes, Takes-then, Takes-behind, IsWide, wide16, wide32, wide64, number_takes, number_again}
 
 -- a constant that was taken from the front, where so many numbers are left
 pub record IsTaken (left : ℕ) (bytes : List ℕ) (c : Constant) (rest : List ℕ) : Type 0 where
@@ -49,6 +48,7 @@ two_taken left tag make spelled fits plain room bytes c rest are e = first (numb
         let both = Takes-then bytes (to_be_bytes w16 m) after (to_be_bytes w16 n) more t u.0 in
         let taken : IsTaken left (tag ∷ bytes) (make m n) more = record { takes = rw spelled (Takes-behind tag bytes (to_be_bytes w16 m ++ to_be_bytes w16 n) more both); fits = fits m n low u.1; plain = plain m n; room = room m n } in
         subst (λ (p : Constant × List ℕ). IsTaken left (tag ∷ bytes) p.0 p.1) (some_is (make m n, more) (c, rest) e) taken
+
     first : (found : Option (ℕ × List ℕ)) → number_at w16 bytes ≡ found → option_and_then {U = Constant × List ℕ} (λ m. option_map {U = Constant × List ℕ} (λ n. (make m.0 n.0, n.1)) (number_at w16 m.1)) found ≡ Some (c, rest) → IsTaken left (tag ∷ bytes) c rest
     first None at e = cc
     first (Some (m, after)) at e =
@@ -77,19 +77,38 @@ fixed_taken : (left tag : ℕ) (bytes : List ℕ) (c : Constant) (rest : List �
     → (is_wide tag ≡ true → 2 ≤ left) → fixed_at tag bytes ≡ Some (c, rest) → IsTaken left (tag ∷ bytes) c rest
 unfolding fixed_at constant
 fixed_taken left tag bytes c rest are t f1 wide e =
-    elim (cases_Bool (eqb tag 3)) [ inl y ↦ put 3 y (one_taken left 3 w32 (2 ^ 32) wide32 Integer (λ n. refl) (λ n l. l) (λ n. refl) (λ n two. absurd (let h : false ≡ true = two in cc)) bytes c rest are (rw y at e))
-  | inr f3 ↦ elim (cases_Bool (eqb tag 4)) [ inl y ↦ put 4 y (one_taken left 4 w32 (2 ^ 32) wide32 Float (λ n. refl) (λ n l. l) (λ n. refl) (λ n two. absurd (let h : false ≡ true = two in cc)) bytes c rest are (rw (f3, y) at e))
-  | inr f4 ↦ elim (cases_Bool (eqb tag 5)) [ inl y ↦ put 5 y (one_taken left 5 w64 (2 ^ 64) wide64 Long (λ n. refl) (λ n l. l) (λ n. refl) (λ n two. wide (or_left (eqb tag 5) (eqb tag 6) y)) bytes c rest are (rw (f3, f4, y) at e))
-  | inr f5 ↦ elim (cases_Bool (eqb tag 6)) [ inl y ↦ put 6 y (one_taken left 6 w64 (2 ^ 64) wide64 Double (λ n. refl) (λ n l. l) (λ n. refl) (λ n two. wide (or_right (eqb tag 5) (eqb tag 6) y)) bytes c rest are (rw (f3, f4, f5, y) at e))
-  | inr f6 ↦ elim (cases_Bool (eqb tag 7)) [ inl y ↦ put 7 y (one_taken left 7 w16 (2 ^ 16) wide16 Class (λ n. refl) (λ n l. l) (λ n. refl) (λ n two. absurd (let h : false ≡ true = two in cc)) bytes c rest are (rw (f3, f4, f5, f6, y) at e))
-  | inr f7 ↦ elim (cases_Bool (eqb tag 8)) [ inl y ↦ put 8 y (one_taken left 8 w16 (2 ^ 16) wide16 Text (λ n. refl) (λ n l. l) (λ n. refl) (λ n two. absurd (let h : false ≡ true = two in cc)) bytes c rest are (rw (f3, f4, f5, f6, f7, y) at e))
-  | inr f8 ↦ elim (cases_Bool (eqb tag 12)) [ inl y ↦ put 12 y (two_taken left 12 NameType (λ m n. refl) (λ m n k l. (k, l)) (λ m n. refl) (λ m n two. absurd (let h : false ≡ true = two in cc)) bytes c rest are (rw (f3, f4, f5, f6, f7, f8, y) at e))
-  | inr f12 ↦ elim (cases_Bool (eqb tag 15)) [ inl y ↦ put 15 y (handle_taken left bytes c rest are (rw (f3, f4, f5, f6, f7, f8, f12, y) at e))
-  | inr f15 ↦ elim (cases_Bool (eqb tag 16)) [ inl y ↦ put 16 y (one_taken left 16 w16 (2 ^ 16) wide16 MethodType (λ n. refl) (λ n l. l) (λ n. refl) (λ n two. absurd (let h : false ≡ true = two in cc)) bytes c rest are (rw (f3, f4, f5, f6, f7, f8, f12, f15, y) at e))
-  | inr f16 ↦ elim (cases_Bool (eqb tag 18)) [ inl y ↦ put 18 y (two_taken left 18 InvokeDynamic (λ m n. refl) (λ m n k l. (k, l)) (λ m n. refl) (λ m n two. absurd (let h : false ≡ true = two in cc)) bytes c rest are (rw (f3, f4, f5, f6, f7, f8, f12, f15, f16, y) at e))
-  | inr f18 ↦ (let ref = reference_tag tag t f1 f3 f4 f5 f6 f7 f8 f12 f15 f16 f18 in
-        two_taken left tag (Ref tag) (λ m n. refl) (λ m n k l. (ref.0, ref.1, k, l)) (λ m n. refl) (λ m n two. absurd (let h : false ≡ true = two in cc)) bytes c rest are (rw (f3, f4, f5, f6, f7, f8, f12, f15, f16, f18) at e))
-  ] ] ] ] ] ] ] ] ] ]
+    elim (cases_Bool (eqb tag 3)) [
+      | inl y ↦ put 3 y (one_taken left 3 w32 (2 ^ 32) wide32 Integer (λ n. refl) (λ n l. l) (λ n. refl) (λ n two. absurd (let h : false ≡ true = two in cc)) bytes c rest are (rw y at e))
+      | inr f3 ↦ elim (cases_Bool (eqb tag 4)) [
+        | inl y ↦ put 4 y (one_taken left 4 w32 (2 ^ 32) wide32 Float (λ n. refl) (λ n l. l) (λ n. refl) (λ n two. absurd (let h : false ≡ true = two in cc)) bytes c rest are (rw (f3, y) at e))
+        | inr f4 ↦ elim (cases_Bool (eqb tag 5)) [
+          | inl y ↦ put 5 y (one_taken left 5 w64 (2 ^ 64) wide64 Long (λ n. refl) (λ n l. l) (λ n. refl) (λ n two. wide (or_left (eqb tag 5) (eqb tag 6) y)) bytes c rest are (rw (f3, f4, y) at e))
+          | inr f5 ↦ elim (cases_Bool (eqb tag 6)) [
+            | inl y ↦ put 6 y (one_taken left 6 w64 (2 ^ 64) wide64 Double (λ n. refl) (λ n l. l) (λ n. refl) (λ n two. wide (or_right (eqb tag 5) (eqb tag 6) y)) bytes c rest are (rw (f3, f4, f5, y) at e))
+            | inr f6 ↦ elim (cases_Bool (eqb tag 7)) [
+              | inl y ↦ put 7 y (one_taken left 7 w16 (2 ^ 16) wide16 Class (λ n. refl) (λ n l. l) (λ n. refl) (λ n two. absurd (let h : false ≡ true = two in cc)) bytes c rest are (rw (f3, f4, f5, f6, y) at e))
+              | inr f7 ↦ elim (cases_Bool (eqb tag 8)) [
+                | inl y ↦ put 8 y (one_taken left 8 w16 (2 ^ 16) wide16 Text (λ n. refl) (λ n l. l) (λ n. refl) (λ n two. absurd (let h : false ≡ true = two in cc)) bytes c rest are (rw (f3, f4, f5, f6, f7, y) at e))
+                | inr f8 ↦ elim (cases_Bool (eqb tag 12)) [
+                  | inl y ↦ put 12 y (two_taken left 12 NameType (λ m n. refl) (λ m n k l. (k, l)) (λ m n. refl) (λ m n two. absurd (let h : false ≡ true = two in cc)) bytes c rest are (rw (f3, f4, f5, f6, f7, f8, y) at e))
+                  | inr f12 ↦ elim (cases_Bool (eqb tag 15)) [
+                    | inl y ↦ put 15 y (handle_taken left bytes c rest are (rw (f3, f4, f5, f6, f7, f8, f12, y) at e))
+                    | inr f15 ↦ elim (cases_Bool (eqb tag 16)) [
+                      | inl y ↦ put 16 y (one_taken left 16 w16 (2 ^ 16) wide16 MethodType (λ n. refl) (λ n l. l) (λ n. refl) (λ n two. absurd (let h : false ≡ true = two in cc)) bytes c rest are (rw (f3, f4, f5, f6, f7, f8, f12, f15, y) at e))
+                      | inr f16 ↦ elim (cases_Bool (eqb tag 18)) [
+                        | inl y ↦ put 18 y (two_taken left 18 InvokeDynamic (λ m n. refl) (λ m n k l. (k, l)) (λ m n. refl) (λ m n two. absurd (let h : false ≡ true = two in cc)) bytes c rest are (rw (f3, f4, f5, f6, f7, f8, f12, f15, f16, y) at e))
+                        | inr f18 ↦ (let ref = reference_tag tag t f1 f3 f4 f5 f6 f7 f8 f12 f15 f16 f18 in
+                            two_taken left tag (Ref tag) (λ m n. refl) (λ m n k l. (ref.0, ref.1, k, l)) (λ m n. refl) (λ m n two. absurd (let h : false ≡ true = two in cc)) bytes c rest are (rw (f3, f4, f5, f6, f7, f8, f12, f15, f16, f18) at e))
+                      ]
+                    ]
+                  ]
+                ]
+              ]
+            ]
+          ]
+        ]
+      ]
+    ]
   where
     put : (k : ℕ) → eqb tag k ≡ true → IsTaken left (k ∷ bytes) c rest → IsTaken left (tag ∷ bytes) c rest
     put k y taken = subst (λ (n : ℕ). IsTaken left (n ∷ bytes) c rest) (sym (eqb-true tag k y)) taken
@@ -105,15 +124,23 @@ text_taken left at bytes c rest are e = go (number_at w16 bytes) refl e
         let second : Takes after (take len after) (drop len after) = record { parts = sym (take-append-drop len after); rest_fits = IsBytes-drop len after t.rest_fits } in
         let both = Takes-then bytes (to_be_bytes w16 len) after (take len after) (drop len after) t second in
         let sized : Takes bytes (to_be_bytes w16 (length (take len after)) ++ take len after) (drop len after) = subst (λ (k : ℕ). Takes bytes (to_be_bytes w16 k ++ take len after) (drop len after)) (sym size) both in
-        record { takes = Takes-behind 1 bytes (to_be_bytes w16 (length (take len after)) ++ take len after) (drop len after) sized;
-          fits = (omega (arith, size, low), (is_text-grammar (take len after)).0 is); plain = refl; room = λ two. absurd (let h : false ≡ true = two in cc) }
+        record {
+          takes = Takes-behind 1 bytes (to_be_bytes w16 (length (take len after)) ++ take len after) (drop len after) sized;
+          fits = (omega (arith, size, low), (is_text-grammar (take len after)).0 is);
+          plain = refl;
+          room = λ two. absurd (let h : false ≡ true = two in cc);
+        }
+
     judged : (len : ℕ) (after : List ℕ) → Takes bytes (to_be_bytes w16 len) after → len < 2 ^ 16 → text_of at (len, after) ≡ Ok (c, rest) → IsTaken left (1 ∷ bytes) c rest
     judged len after t low e = elim (cases_Bool (ltb (length after) len)) [
-        inl y ↦ absurd (let bad : Err (cut_short at) ≡ Ok (c, rest) = rw y at e in cc)
+      | inl y ↦ absurd (let bad : Err (cut_short at) ≡ Ok (c, rest) = rw y at e in cc)
       | inr f ↦ elim (cases_Bool (is_text (take len after))) [
-          inl y ↦ (let taken = whole len after t low (ltb-false (length after) len f) y in
+        | inl y ↦ (let taken = whole len after t low (ltb-false (length after) len f) y in
             subst (λ (p : Constant × List ℕ). IsTaken left (1 ∷ bytes) p.0 p.1) (ok_is (Utf8 (take len after), drop len after) (c, rest) (rw (f, y) at e)) taken)
-        | inr g ↦ absurd (let bad : Err (bad_text at) ≡ Ok (c, rest) = rw (f, g) at e in cc) ] ]
+        | inr g ↦ absurd (let bad : Err (bad_text at) ≡ Ok (c, rest) = rw (f, g) at e in cc)
+      ]
+    ]
+
     go : (found : Option (ℕ × List ℕ)) → number_at w16 bytes ≡ found → (or_cut at found >>= text_of at) ≡ Ok (c, rest) → IsTaken left (1 ∷ bytes) c rest
     go None is e = absurd cc
     go (Some (len, after)) is e =
@@ -128,12 +155,15 @@ pub constant_taken : (end left : ℕ) (bytes : List ℕ) (c : Constant) (rest : 
 unfolding constant_at
 constant_taken end left [] c rest are e = absurd cc
 constant_taken end left (tag ∷ bytes) c rest are e = elim (cases_Bool (is_tag tag)) [
-    inr f ↦ absurd (let bad : Err (bad_tag (place end (tag ∷ bytes)) tag) ≡ Ok (c, rest) = rw f at e in cc)
+  | inr f ↦ absurd (let bad : Err (bad_tag (place end (tag ∷ bytes)) tag) ≡ Ok (c, rest) = rw f at e in cc)
   | inl t ↦ elim (cases_Bool (is_wide tag && ltb left 2)) [
-      inl y ↦ absurd (let bad : Err (bad_tag (place end (tag ∷ bytes)) tag) ≡ Ok (c, rest) = rw (t, y) at e in cc)
+    | inl y ↦ absurd (let bad : Err (bad_tag (place end (tag ∷ bytes)) tag) ≡ Ok (c, rest) = rw (t, y) at e in cc)
     | inr g ↦ elim (cases_Bool (eqb tag 1)) [
-        inl y ↦ subst (λ (n : ℕ). IsTaken left (n ∷ bytes) c rest) (sym (eqb-true tag 1 y)) (text_taken left (place end (tag ∷ bytes)) bytes c rest (IsBytes-rest tag bytes are) (rw (t, g, y) at e))
-      | inr f1 ↦ fixed_taken left tag bytes c rest (IsBytes-rest tag bytes are) t f1 (enough g) (or_cut_ok (place end (tag ∷ bytes)) (fixed_at tag bytes) c rest (rw (t, g, f1) at e)) ] ] ]
+      | inl y ↦ subst (λ (n : ℕ). IsTaken left (n ∷ bytes) c rest) (sym (eqb-true tag 1 y)) (text_taken left (place end (tag ∷ bytes)) bytes c rest (IsBytes-rest tag bytes are) (rw (t, g, y) at e))
+      | inr f1 ↦ fixed_taken left tag bytes c rest (IsBytes-rest tag bytes are) t f1 (enough g) (or_cut_ok (place end (tag ∷ bytes)) (fixed_at tag bytes) c rest (rw (t, g, f1) at e))
+    ]
+  ]
+]
   where
     enough : (is_wide tag && ltb left 2) ≡ false → is_wide tag ≡ true → 2 ≤ left
     enough g w = elim (and_cases (is_wide tag) (ltb left 2) g) [ inl f ↦ absurd (let bad : false ≡ true = sym f ∙ w in cc) | inr f ↦ ltb-false left 2 f ]
@@ -172,10 +202,12 @@ constant_again end left (Double n) rest fits plain room = rw (wide_enough left (
 constant_again end left (Class n) rest fits plain room = one_again (place end (constant (Class n) ++ rest)) w16 (2 ^ 16) wide16 Class n rest fits
 constant_again end left (Text n) rest fits plain room = one_again (place end (constant (Text n) ++ rest)) w16 (2 ^ 16) wide16 Text n rest fits
 constant_again end left (Ref tag m n) rest fits plain room = elim (reference tag fits.0 fits.1) [
-    inl e ↦ subst (λ (k : ℕ). constant_at end left (constant (Ref k m n) ++ rest) ≡ Ok (Ref k m n, rest)) (sym e) (two_again (place end (constant (Ref 9 m n) ++ rest)) (Ref 9) m n rest fits.2 fits.3)
+  | inl e ↦ subst (λ (k : ℕ). constant_at end left (constant (Ref k m n) ++ rest) ≡ Ok (Ref k m n, rest)) (sym e) (two_again (place end (constant (Ref 9 m n) ++ rest)) (Ref 9) m n rest fits.2 fits.3)
   | inr other ↦ elim other [
-      inl e ↦ subst (λ (k : ℕ). constant_at end left (constant (Ref k m n) ++ rest) ≡ Ok (Ref k m n, rest)) (sym e) (two_again (place end (constant (Ref 10 m n) ++ rest)) (Ref 10) m n rest fits.2 fits.3)
-    | inr e ↦ subst (λ (k : ℕ). constant_at end left (constant (Ref k m n) ++ rest) ≡ Ok (Ref k m n, rest)) (sym e) (two_again (place end (constant (Ref 11 m n) ++ rest)) (Ref 11) m n rest fits.2 fits.3) ] ]
+    | inl e ↦ subst (λ (k : ℕ). constant_at end left (constant (Ref k m n) ++ rest) ≡ Ok (Ref k m n, rest)) (sym e) (two_again (place end (constant (Ref 10 m n) ++ rest)) (Ref 10) m n rest fits.2 fits.3)
+    | inr e ↦ subst (λ (k : ℕ). constant_at end left (constant (Ref k m n) ++ rest) ≡ Ok (Ref k m n, rest)) (sym e) (two_again (place end (constant (Ref 11 m n) ++ rest)) (Ref 11) m n rest fits.2 fits.3)
+  ]
+]
   where
     reference : (k : ℕ) → 9 ≤ k → k ≤ 11 → (k ≡ 9) ⊎ ((k ≡ 10) ⊎ (k ≡ 11))
     reference k low high = elim (cases_Bool (eqb k 9)) [ inl y ↦ inl (eqb-true k 9 y) | inr f ↦ inr (elim (cases_Bool (eqb k 10)) [ inl y ↦ inl (eqb-true k 10 y) | inr g ↦ inr (last (eqb-false k 9 f) (eqb-false k 10 g)) ]) ]

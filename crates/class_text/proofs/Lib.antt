@@ -2,3 +2,4 @@ pub mod Numbers
 pub mod Constants
 pub mod Pools
 pub mod Places
+pub mod Continued

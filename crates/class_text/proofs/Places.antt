@@ -1,5 +1,5 @@
 -- Before the place of a fault only good constants stand.
-use Rattle.std.proofs.Common.{◌≡◌, ℕ, zero, suc, eqb, ltb, ◌+◌, ◌-◌, ◌^◌, ◌<◌, ◌≤◌, ◌⊎◌, Bool, true, false, not, ◌&&◌, cond, List, [], ◌∷◌, ◌++◌, length, take, drop, flat_map, Option, Some, None, Result, Ok, Err, IsTrue, refl, sym, ap, subst, ◌∙◌, append_assoc, arith, inl, inr}
+use Rattle.std.proofs.Common.{◌≡◌, ℕ, zero, suc, eqb, ltb, ◌+◌, ◌-◌, ◌^◌, ◌≤◌, Bool, true, false, ◌&&◌, List, [], ◌∷◌, ◌++◌, length, take, drop, flat_map, Option, Some, None, Result, Ok, Err, refl, sym, ap, ◌∙◌, append_assoc, arith, inl, inr}
 use Rattle.std.specs.List.{AllByRecursion}
 use Rattle.std.specs.Int.{w16, to_be_bytes}
 use Rattle.std.proofs.lemmas.Bool.{cases_Bool}
@@ -10,24 +10,24 @@ use Rattle.class_model.specs.declared.constant_pool.Pool.{Pool}
 use Rattle.class_model.specs.Units.{is_text}
 use Rattle.class_model.specs.Constants.{IsConstant, takes_two, has_targets}
 use Rattle.class_model.specs.Spelling.{constant}
-use Rattle.class_text.specs.Reading.{Fault, cut_short, bad_tag, bad_text, bad_index, place_of, Reading, ◌>>=◌, place, number_at, or_cut, IsBytes}
-use Rattle.class_text.specs.Pool.{is_tag, is_wide, fixed_at, text_of, utf8_at, constant_at, constants_at, with_first, wrong_at, pool_of, unless_wrong, judged, counted_at, pool_at, IsBehind, OnlyGoodBefore}
+use Rattle.class_text.specs.Reading.{Fault, cut_short, bad_tag, bad_text, bad_index, place_of, ◌>>=◌, place, number_at, or_cut, IsBytes}
+use Rattle.class_text.specs.Pool.{is_tag, is_wide, fixed_at, text_of, utf8_at, constant_at, constants_at, with_first, wrong_at, pool_of, unless_wrong, judged, counted_at, pool_at, OnlyGoodBefore}
 use Rattle.class_text.proofs.Numbers.{Takes, ok_is, some_is, wide16, number_takes}
 use Rattle.class_text.proofs.Constants.{IsTaken, constant_taken}
-use Rattle.class_text.proofs.Pools.{AreTaken, constants_taken}
+use Rattle.class_text.proofs.Pools.{constants_taken}
 
-abbrev failed : {A : Type 0} → Fault → Result A Fault
+abbrev pub failed : {A : Type 0} → Fault → Result A Fault
 failed f = Err f
 
-err_is : {A : Type 0} (f g : Fault) → failed {A = A} f ≡ failed {A = A} g → f ≡ g
+pub err_is : {A : Type 0} (f g : Fault) → failed {A = A} f ≡ failed {A = A} g → f ≡ g
 err_is f g e = cc
 
 -- a step that failed, or one behind it
-data Failed {A B : Type 0} (r : Result A Fault) (next : A → Result B Fault) (f : Fault) : Type 0 where
+pub data Failed {A B : Type 0} (r : Result A Fault) (next : A → Result B Fault) (f : Fault) : Type 0 where
   first : r ≡ Err f → Failed r next f
   later : (x : A) → r ≡ Ok x → next x ≡ Err f → Failed r next f
 
-bind_err : {A B : Type 0} (r : Result A Fault) (next : A → Result B Fault) (f : Fault) → (r >>= next) ≡ Err f → Failed r next f
+pub bind_err : {A B : Type 0} (r : Result A Fault) (next : A → Result B Fault) (f : Fault) → (r >>= next) ≡ Err f → Failed r next f
 bind_err (Ok x) next f e = later x refl e
 bind_err (Err d) next f e = first (ap (λ g. Err g) (err_is d f e))
 
@@ -38,10 +38,12 @@ cut_place at (Some x) f e = absurd cc
 
 text_place : (at : ℕ) (n : ℕ × List ℕ) (f : Fault) → text_of at n ≡ Err f → place_of f ≡ at
 text_place at n f e = elim (cases_Bool (ltb (length n.1) n.0)) [
-    inl y ↦ ap place_of (sym (err_is (cut_short at) f (rw y at e)))
+  | inl y ↦ ap place_of (sym (err_is (cut_short at) f (rw y at e)))
   | inr g ↦ elim (cases_Bool (is_text (take n.0 n.1))) [
-      inl y ↦ absurd (let bad : Ok (Utf8 (take n.0 n.1), drop n.0 n.1) ≡ Err f = rw (g, y) at e in cc)
-    | inr h ↦ ap place_of (sym (err_is (bad_text at) f (rw (g, h) at e))) ] ]
+    | inl y ↦ absurd (let bad : Ok (Utf8 (take n.0 n.1), drop n.0 n.1) ≡ Err f = rw (g, y) at e in cc)
+    | inr h ↦ ap place_of (sym (err_is (bad_text at) f (rw (g, h) at e)))
+  ]
+]
 
 utf8_place : (at : ℕ) (bytes : List ℕ) (f : Fault) → utf8_at at bytes ≡ Err f → place_of f ≡ at
 unfolding utf8_at
@@ -57,12 +59,15 @@ constant_place end left [] f e = ap place_of (sym (err_is (cut_short (place end 
 constant_place end left (tag ∷ bytes) f e =
     let at = place end (tag ∷ bytes) in
     elim (cases_Bool (is_tag tag)) [
-      inr g ↦ ap place_of (sym (err_is (bad_tag at tag) f (rw g at e)))
-    | inl t ↦ elim (cases_Bool (is_wide tag && ltb left 2)) [
-        inl y ↦ ap place_of (sym (err_is (bad_tag at tag) f (rw (t, y) at e)))
-      | inr g ↦ elim (cases_Bool (eqb tag 1)) [
-          inl y ↦ utf8_place at bytes f (rw (t, g, y) at e)
-        | inr h ↦ cut_place at (fixed_at tag bytes) f (rw (t, g, h) at e) ] ] ]
+      | inr g ↦ ap place_of (sym (err_is (bad_tag at tag) f (rw g at e)))
+      | inl t ↦ elim (cases_Bool (is_wide tag && ltb left 2)) [
+        | inl y ↦ ap place_of (sym (err_is (bad_tag at tag) f (rw (t, y) at e)))
+        | inr g ↦ elim (cases_Bool (eqb tag 1)) [
+          | inl y ↦ utf8_place at bytes f (rw (t, g, y) at e)
+          | inr h ↦ cut_place at (fixed_at tag bytes) f (rw (t, g, h) at e)
+        ]
+      ]
+    ]
 
 -- good constants before a place
 record Before (end : ℕ) (bytes : List ℕ) (at : ℕ) : Type 0 where
@@ -90,6 +95,7 @@ constants_before end (suc numbers) false bytes f are e =
         let b = behind (takes_two c) after taken.takes.rest_fits is in
         record { good = c ∷ b.good; rest = b.rest; spelled = taken.takes.parts ∙ ap (λ (l : List ℕ). constant c ++ l) b.spelled ∙ sym (append_assoc (constant c) (flat_map constant b.good) b.rest); fit = (taken.fits, b.fit); here = b.here }
     inner c after taken behind (later x is is') = absurd cc
+
     go : Failed (constant_at end (suc numbers) bytes) (λ found. constants_at end (takes_two found.0) numbers found.1 >>= with_first found.0) f
         → ((due : Bool) (after' : List ℕ) → IsBytes after' → constants_at end due numbers after' ≡ Err f → Before end after' (place_of f)) → Before end bytes (place_of f)
     go (first is) behind = record { good = []; rest = bytes; spelled = refl; fit = tt; here = constant_place end (suc numbers) bytes f is }
@@ -107,10 +113,11 @@ wrong_before p end (c ∷ cs) after at fit small e =
     let parts : all ≡ constant c ++ behind = append_assoc (constant c) (flat_map constant cs) after in
     let size = ap length parts ∙ length-append (constant c) behind in
     elim (cases_Bool (has_targets p c)) [
-      inr f ↦ record { good = []; rest = all; spelled = refl; fit = tt; here = sym (some_is (place end all) at (rw f at e)) }
-    | inl y ↦ (let next : place end all + length (constant c) ≡ place end behind = omega (arith, size, small) in
-        let b = wrong_before p end cs after at fit.1 (omega (arith, size, small)) (rw (y, next) at e) in
-        record { good = c ∷ b.good; rest = b.rest; spelled = parts ∙ ap (λ (l : List ℕ). constant c ++ l) b.spelled ∙ sym (append_assoc (constant c) (flat_map constant b.good) b.rest); fit = (fit.0, b.fit); here = b.here }) ]
+      | inr f ↦ record { good = []; rest = all; spelled = refl; fit = tt; here = sym (some_is (place end all) at (rw f at e)) }
+      | inl y ↦ (let next : place end all + length (constant c) ≡ place end behind = omega (arith, size, small) in
+          let b = wrong_before p end cs after at fit.1 (omega (arith, size, small)) (rw (y, next) at e) in
+          record { good = c ∷ b.good; rest = b.rest; spelled = parts ∙ ap (λ (l : List ℕ). constant c ++ l) b.spelled ∙ sym (append_assoc (constant c) (flat_map constant b.good) b.rest); fit = (fit.0, b.fit); here = b.here })
+    ]
 
 -- what stands before a place behind the count
 counted_before : (end : ℕ) (bytes : List ℕ) (count : ℕ) (rest : List ℕ) (at : ℕ) → Takes bytes (to_be_bytes w16 count) rest → Before end rest at → OnlyGoodBefore end bytes at
@@ -134,21 +141,26 @@ pool_before end bytes f are small e = go (bind_err (or_cut at (number_at w16 byt
   where
     at : ℕ
     at = place end bytes
+
     constants : (count : ℕ) (rest : List ℕ) → Takes bytes (to_be_bytes w16 count) rest → Failed (constants_at end false (count - 1) rest) (judged (place end rest)) f → OnlyGoodBefore end bytes (place_of f)
     constants count rest t (first is) = counted_before end bytes count rest (place_of f) t (constants_before end (count - 1) false rest f t.rest_fits is)
     constants count rest t (later found is is') =
         let taken = constants_taken end (count - 1) false rest found.0 found.1 t.rest_fits (λ no. absurd (let h : false ≡ true = no in cc)) is in
         let within : length rest ≤ end = omega (arith, ap length t.parts ∙ length-append (to_be_bytes w16 count) rest, small) in
         counted_before end bytes count rest (place_of f) t (judged_before end rest found.0 found.1 f taken.fit taken.takes.parts within is')
+
     counted : (count : ℕ) (rest : List ℕ) → Takes bytes (to_be_bytes w16 count) rest → counted_at end at (count, rest) ≡ Err f → OnlyGoodBefore end bytes (place_of f)
     counted count rest t e = elim (cases_Bool (eqb count 0)) [
-        inl y ↦ inl (ap place_of (sym (err_is (bad_index at) f (rw y at e))))
-      | inr g ↦ constants count rest t (bind_err (constants_at end false (count - 1) rest) (judged (place end rest)) f (rw g at e)) ]
+      | inl y ↦ inl (ap place_of (sym (err_is (bad_index at) f (rw y at e))))
+      | inr g ↦ constants count rest t (bind_err (constants_at end false (count - 1) rest) (judged (place end rest)) f (rw g at e))
+    ]
+
     number : (found : Option (ℕ × List ℕ)) → number_at w16 bytes ≡ found → (x : ℕ × List ℕ) → or_cut at found ≡ Ok x → counted_at end at x ≡ Err f → OnlyGoodBefore end bytes (place_of f)
     number None is x ok e = absurd cc
     number (Some y) is x ok e =
         let same : y ≡ x = ok_is y x ok in
         counted x.0 x.1 (number_takes w16 (2 ^ 16) wide16 bytes x.0 x.1 are (is ∙ ap (λ (q : ℕ × List ℕ). Some q) same)).0 e
+
     go : Failed (or_cut at (number_at w16 bytes)) (counted_at end at) f → OnlyGoodBefore end bytes (place_of f)
     go (first is) = inl (cut_place at (number_at w16 bytes) f is)
     go (later x is is') = number (number_at w16 bytes) refl x is is'

@@ -1,14 +1,14 @@
 -- A pool that is read is a pool and is spelled so, and what is spelled so is read.
-use Rattle.std.proofs.Common.{◌≡◌, ℕ, zero, suc, eqb, ltb, ◌+◌, ◌-◌, ◌^◌, ◌<◌, ◌≤◌, Bool, true, false, not, ◌&&◌, cond, List, [], ◌∷◌, ◌++◌, length, flat_map, Option, Some, None, Result, Ok, Err, IsTrue, refl, sym, ap, subst, ◌∙◌, append_assoc, arith, inl, inr}
+use Rattle.std.proofs.Common.{◌≡◌, ℕ, zero, suc, eqb, ◌+◌, ◌-◌, ◌^◌, ◌<◌, ◌≤◌, Bool, true, false, not, List, [], ◌∷◌, ◌++◌, length, flat_map, Option, Some, None, Ok, Err, IsTrue, refl, sym, ap, subst, ◌∙◌, append_assoc, arith, inl, inr}
 use Rattle.std.specs.List.{AllByRecursion}
 use Rattle.std.specs.Int.{w16, to_be_bytes}
-use Rattle.std.proofs.lemmas.Bool.{cases_Bool, eqb-true, eqb-false, and_parts, and_from, not-true, ne_eqb}
+use Rattle.std.proofs.lemmas.Bool.{cases_Bool, eqb-false, and_parts, and_from, not-true, ne_eqb}
 use Rattle.class_model.specs.declared.constant_pool.Constant.{Constant}
 use Rattle.class_model.specs.declared.constant_pool.Constant.TheVariants.{Second}
 use Rattle.class_model.specs.declared.constant_pool.Pool.{Pool}
 use Rattle.class_model.specs.Constants.{IsConstant, IsPool, takes_two, is_second, has_seconds, has_targets}
 use Rattle.class_model.specs.Spelling.{constant, pool}
-use Rattle.class_text.specs.Reading.{Fault, cut_short, bad_index, Reading, ◌>>=◌, place, number_at, or_cut, IsBytes}
+use Rattle.class_text.specs.Reading.{bad_index, ◌>>=◌, place, number_at, or_cut, IsBytes}
 use Rattle.class_text.specs.Pool.{constant_at, constants_at, with_first, wrong_at, pool_of, unless_wrong, judged, counted_at, pool_at}
 use Rattle.class_text.proofs.Numbers.{bind_ok, ok_is, Takes, Takes-then, wide16, number_takes, number_again}
 use Rattle.class_text.proofs.Constants.{IsTaken, constant_taken, constant_again}
@@ -28,11 +28,11 @@ next_taken : (numbers left : ℕ) (bytes : List ℕ) (c : Constant) (after : Lis
     → AreTaken false (suc numbers) bytes (c ∷ cs) rest
 unfolding has_seconds
 next_taken numbers left bytes c after cs rest one more = record {
-    takes = Takes-then bytes (constant c) after (flat_map constant cs) rest one.takes more.takes;
-    fit = (one.fits, more.fit);
-    seconds = and_from (not (is_second c)) (has_seconds (takes_two c) cs) (ap not one.plain) more.seconds;
-    many = ap suc more.many;
-  }
+  takes = Takes-then bytes (constant c) after (flat_map constant cs) rest one.takes more.takes;
+  fit = (one.fits, more.fit);
+  seconds = and_from (not (is_second c)) (has_seconds (takes_two c) cs) (ap not one.plain) more.seconds;
+  many = ap suc more.many;
+}
 
 pub constants_taken : (end numbers : ℕ) (due : Bool) (bytes : List ℕ) (cs : List Constant) (rest : List ℕ) → IsBytes bytes → (due ≡ true → 1 ≤ numbers)
     → constants_at end due numbers bytes ≡ Ok (cs, rest) → AreTaken due numbers bytes cs rest
@@ -84,8 +84,9 @@ none_wrong : (p : Pool) (at : ℕ) (cs : List Constant) → wrong_at p at cs ≡
 unfolding wrong_at
 none_wrong p at [] e = tt
 none_wrong p at (c ∷ cs) e = elim (cases_Bool (has_targets p c)) [
-    inl y ↦ (y, none_wrong p (at + length (constant c)) cs (rw y at e))
-  | inr f ↦ absurd (let bad : Some at ≡ None = rw f at e in cc) ]
+  | inl y ↦ (y, none_wrong p (at + length (constant c)) cs (rw y at e))
+  | inr f ↦ absurd (let bad : Some at ≡ None = rw f at e in cc)
+]
 
 all_right : (p : Pool) (at : ℕ) (cs : List Constant) → AllByRecursion (λ c. IsTrue (has_targets p c)) cs → wrong_at p at cs ≡ None
 unfolding wrong_at
@@ -98,6 +99,7 @@ pool_taken end bytes p rest are e = go (number_at w16 bytes) refl e
   where
     at : ℕ
     at = place end bytes
+
     right : (count : ℕ) (after : List ℕ) (found : List Constant × List ℕ) → Takes bytes (to_be_bytes w16 count) after → count < 2 ^ 16 → eqb count 0 ≡ false → AreTaken false (count - 1) after found.0 found.1
         → (wrong : Option ℕ) → wrong_at (pool_of found.0) (place end after) found.0 ≡ wrong → unless_wrong found wrong ≡ Ok (p, rest) → IsPool p × Takes bytes (pool p) rest
     right count after found t low some taken (Some at) is e = absurd cc
@@ -107,12 +109,15 @@ pool_taken end bytes p rest are e = go (number_at w16 bytes) refl e
         let spelled : Takes bytes (to_be_bytes w16 (length found.0 + 1) ++ flat_map constant found.0) found.1 = subst (λ (k : ℕ). Takes bytes (to_be_bytes w16 k ++ flat_map constant found.0) found.1) (sym size) both in
         let is_pool : IsPool (pool_of found.0) = record { counted = omega (arith, size, low); constants = taken.fit; seconds = taken.seconds; targets = none_wrong (pool_of found.0) (place end after) found.0 is } in
         subst (λ (q : Pool × List ℕ). IsPool q.0 × Takes bytes (pool q.0) q.1) (ok_is (pool_of found.0, found.1) (p, rest) e) (is_pool, spelled)
+
     counted : (count : ℕ) (after : List ℕ) → Takes bytes (to_be_bytes w16 count) after → count < 2 ^ 16 → counted_at end at (count, after) ≡ Ok (p, rest) → IsPool p × Takes bytes (pool p) rest
     counted count after t low e = elim (cases_Bool (eqb count 0)) [
-        inl y ↦ absurd (let bad : Err (bad_index at) ≡ Ok (p, rest) = rw y at e in cc)
+      | inl y ↦ absurd (let bad : Err (bad_index at) ≡ Ok (p, rest) = rw y at e in cc)
       | inr f ↦ (let b = bind_ok (constants_at end false (count - 1) after) (judged (place end after)) (p, rest) (rw f at e) in
           let taken = constants_taken end (count - 1) false after b.0.0 b.0.1 t.rest_fits (λ no. absurd (let h : false ≡ true = no in cc)) b.1 in
-          right count after b.0 t low f taken (wrong_at (pool_of b.0.0) (place end after) b.0.0) refl b.2) ]
+          right count after b.0 t low f taken (wrong_at (pool_of b.0.0) (place end after) b.0.0) refl b.2)
+    ]
+
     go : (found : Option (ℕ × List ℕ)) → number_at w16 bytes ≡ found → (or_cut at found >>= counted_at end at) ≡ Ok (p, rest) → IsPool p × Takes bytes (pool p) rest
     go None is e = absurd cc
     go (Some (count, after)) is e =

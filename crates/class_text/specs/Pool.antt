@@ -1,5 +1,5 @@
 -- The first bad place of a constant pool (JVMS 4.4).
-use Rattle.std.specs.Prelude.{◌≡◌, ◌⊎◌, ℕ, zero, suc, ◌+◌, ◌-◌, Bool, true, false, not, ◌&&◌, ◌||◌, ◌==◌, nat_lt, nat_le, List, [], ◌∷◌, ◌++◌, length, take, drop, Option, Some, None, option_map, option_and_then, Result, Ok, Err, if◌then◌else◌}
+use Rattle.std.specs.Prelude.{◌≡◌, ◌⊎◌, ℕ, zero, suc, ◌+◌, ◌-◌, Bool, true, false, not, ◌&&◌, ◌||◌, ◌==◌, nat_lt, nat_le, List, [], ◌∷◌, ◌++◌, length, take, drop, Option, Some, None, option_map, option_and_then, Ok, Err, if◌then◌else◌}
 use Rattle.std.specs.List.{flat_map, AllByRecursion}
 use Rattle.std.specs.Int.{Width, to_be_bytes, w16, w32, w64}
 use Rattle.class_model.specs.declared.constant_pool.Constant.{Constant}
@@ -8,7 +8,7 @@ use Rattle.class_model.specs.declared.constant_pool.Pool.{Pool}
 use Rattle.class_model.specs.Units.{is_text}
 use Rattle.class_model.specs.Constants.{IsConstant, has_targets, takes_two}
 use Rattle.class_model.specs.Spelling as spelling
-use Rattle.class_text.specs.Reading.{Fault, cut_short, bad_tag, bad_text, bad_index, Reading, ◌>>=◌, place, number_at, or_cut}
+use Rattle.class_text.specs.Reading.{cut_short, bad_tag, bad_text, bad_index, Reading, ◌>>=◌, place, number_at, or_cut}
 
 -- the tags that stand in a pool
 abbrev pub is_tag : ℕ → Bool

@@ -1,6 +1,6 @@
 -- Reading bytes from the left, with the first fault that is met. A reader is given where the bytes end in the file, so
 -- that the place of a fault follows from the bytes that are left there.
-use Rattle.std.specs.Prelude.{◌≡◌, ℕ, ◌-◌, ◌+◌, ◌<◌, ◌^◌, Bool, List, ◌++◌, length, take, drop, Option, Some, None, Result, Ok, Err, nat_lt, slice_index, if◌then◌else◌}
+use Rattle.std.specs.Prelude.{ℕ, ◌-◌, ◌<◌, ◌^◌, Bool, true, false, List, length, take, drop, Option, Some, None, Result, Ok, Err, nat_lt, slice_index, if◌then◌else◌}
 use Rattle.std.specs.Int.{Width, byte_len, from_be_bytes}
 
 -- a bad place, with its cause
@@ -15,6 +15,10 @@ place_of (cut_short at) = at
 place_of (bad_tag at tag) = at
 place_of (bad_text at) = at
 place_of (bad_index at) = at
+
+abbrev pub is_cut : Fault → Bool
+is_cut (cut_short at) = true
+is_cut _ = false
 
 abbrev pub Reading : Type 0 → Type 0
 Reading A = Result (A × List ℕ) Fault

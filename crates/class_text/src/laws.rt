@@ -1,10 +1,10 @@
 //! The laws that tie reading to the grammar.
 
-ghost use Rattle.std.specs.Prelude.{◌≡◌, ◌++◌, ◌≤◌, ℕ, List, length, Ok, Err};
+ghost use Rattle.std.specs.Prelude.{◌≡◌, ◌+◌, ◌++◌, ◌≤◌, ℕ, List, length, false, Ok, Err};
 ghost use Rattle.class_model.specs.declared.constant_pool.Pool.{Pool};
 ghost use Rattle.class_model.specs.Constants.{IsPool};
 ghost use Rattle.class_model.specs.Spelling as spelling;
-ghost use Rattle.class_text.specs.Reading.{Fault, place_of, IsBytes};
+ghost use Rattle.class_text.specs.Reading.{Fault, place_of, is_cut, IsBytes};
 ghost use Rattle.class_text.specs.Pool.{pool_at, OnlyGoodBefore};
 
 /// A pool that is read is spelled by the bytes that it takes, and each spelling of a pool is read, whatever follows. So
@@ -13,13 +13,19 @@ pub fn pool_laws()
     ensures taken { (end : ℕ) (bytes : List ℕ) (p : Pool) (rest : List ℕ) → IsBytes bytes → pool_at end bytes ≡ Ok (p, rest)
         → IsPool p × (bytes ≡ spelling.pool p ++ rest) }
     ensures again { (end : ℕ) (p : Pool) (rest : List ℕ) → IsPool p → pool_at end (spelling.pool p ++ rest) ≡ Ok (p, rest) }
-{
-}
+{}
 
 /// Before the place of a fault only constants stand that are good by themselves, behind the count, unless the fault is
 /// the count's own.
 pub fn place_law()
     ensures { (end : ℕ) (bytes : List ℕ) (fault : Fault) → IsBytes bytes → length bytes ≤ end → pool_at end bytes ≡ Err fault
         → OnlyGoodBefore end bytes (place_of fault) }
-{
-}
+{}
+
+/// A fault other than a cut stays where more bytes follow. So no text that begins with such bytes is that of a pool.
+pub fn continued_law()
+    ensures stays { (end : ℕ) (bytes more : List ℕ) (fault : Fault) → IsBytes bytes → is_cut fault ≡ false → pool_at end bytes ≡ Err fault
+        → pool_at (end + length more) (bytes ++ more) ≡ Err fault }
+    ensures none { (end : ℕ) (bytes more : List ℕ) (fault : Fault) → IsBytes bytes → is_cut fault ≡ false → pool_at end bytes ≡ Err fault
+        → (p : Pool) (rest : List ℕ) → IsPool p → bytes ++ more ≡ spelling.pool p ++ rest → ⊥ }
+{}

@@ -5,4 +5,4 @@
 
 mod laws;
 
-pub use laws::{place_law, pool_laws};
+pub use laws::{continued_law, place_law, pool_laws};
