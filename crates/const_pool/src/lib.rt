@@ -1,0 +1,17 @@
+//! The constant pool (JVMS 4.4) both ways: read from the bytes of a class file, with the first bad place where they are
+//! no pool, and written. It stands on `class_model` for the pool and on `class_text` for the definitions that its
+//! contracts cite. The reader and the writer of class files use `read_pool` and `write_pool`.
+#![tactic(auto)]
+
+mod numbers;
+mod pool_fault;
+mod pool_reader;
+mod targets;
+
+pub use numbers::{u2_in, u4_in, u8_in};
+pub use pool_fault::PoolFault;
+pub use pool_reader::read_pool;
+pub use targets::has_targets;
+
+#[cfg(test)]
+mod tests;

@@ -1,0 +1,327 @@
+//! Reading a pool.
+
+ghost use Rattle.std.specs.Prelude.{ℕ, List, ◌≡◌, ◌+◌, ◌++◌, ◌-◌, ◌<◌, ◌≤◌, ◌^◌, length, drop, IfOk, IfErr, option_map, false};
+ghost use Rattle.std.specs.List.{flat_map};
+ghost use Rattle.class_model.specs.declared.constant_pool.Pool.{Pool};
+ghost use Rattle.class_model.specs.Constants.{takes_two, IsPool};
+ghost use Rattle.class_model.specs.Spelling as spelling;
+ghost use Rattle.class_text.specs.Reading.{place};
+ghost use Rattle.class_text.specs.Pool.{of_two, handle_at, fixed_at, is_tag, is_wide, utf8_at, constant_at, constants_at, wrong_at, judged, pool_at};
+ghost use Rattle.const_pool.specs.Faults.{Gives, Fails, IsOkUnlessMemory, behind};
+
+use crate::numbers::{u2_in, u4_in, u8_in};
+use crate::pool_fault::PoolFault;
+use crate::targets::has_targets;
+use class_model::{Constant, Constants, Pool, is_modified_utf8};
+use sqlite_items::Items;
+use std::alloc::Global;
+
+fn handle_in(bytes: &[u8]) -> Option<(Constant, &[u8])>
+    ensures { option_map (λ r. (r.0, r.1.now)) result ≡ handle_at bytes.now }
+{
+    let (kind, rest) = bytes.split_first()?;
+    let (reference, rest) = u2_in(rest)?;
+    let handle = Constant::Handle {
+        kind: *kind,
+        reference,
+    };
+    Some((handle, rest))
+}
+
+fn name_type_in(bytes: &[u8]) -> Option<(Constant, &[u8])>
+    ensures { option_map (λ r. (r.0, r.1.now)) result ≡ of_two Constant.NameType bytes.now }
+{
+    let (name, rest) = u2_in(bytes)?;
+    let (descriptor, rest) = u2_in(rest)?;
+    Some((Constant::NameType { name, descriptor }, rest))
+}
+
+fn dynamic_in(bytes: &[u8]) -> Option<(Constant, &[u8])>
+    ensures { option_map (λ r. (r.0, r.1.now)) result ≡ of_two Constant.InvokeDynamic bytes.now }
+{
+    let (bootstrap, rest) = u2_in(bytes)?;
+    let (name_type, rest) = u2_in(rest)?;
+    let site = Constant::InvokeDynamic {
+        bootstrap,
+        name_type,
+    };
+    Some((site, rest))
+}
+
+fn ref_in(tag: u8, bytes: &[u8]) -> Option<(Constant, &[u8])>
+    ensures { option_map (λ r. (r.0, r.1.now)) result ≡ of_two (Constant.Ref tag) bytes.now }
+{
+    let (class, rest) = u2_in(bytes)?;
+    let (name_type, rest) = u2_in(rest)?;
+    let reference = Constant::Ref {
+        tag,
+        class,
+        name_type,
+    };
+    Some((reference, rest))
+}
+
+/// What stands behind a tag, but for a text. `None` where it is cut.
+#[tactic(auto, unfolding(class_text::specs::Pool::fixed_at))]
+fn fixed_in(tag: u8, bytes: &[u8]) -> Option<(Constant, &[u8])>
+    ensures { option_map (λ r. (r.0, r.1.now)) result ≡ fixed_at tag bytes.now }
+{
+    if tag == 3 {
+        let (n, rest) = u4_in(bytes)?;
+        return Some((Constant::Integer(n), rest));
+    }
+    if tag == 4 {
+        let (n, rest) = u4_in(bytes)?;
+        return Some((Constant::Float(n), rest));
+    }
+    if tag == 5 {
+        let (n, rest) = u8_in(bytes)?;
+        return Some((Constant::Long(n), rest));
+    }
+    if tag == 6 {
+        let (n, rest) = u8_in(bytes)?;
+        return Some((Constant::Double(n), rest));
+    }
+    if tag == 7 {
+        let (name, rest) = u2_in(bytes)?;
+        return Some((Constant::Class(name), rest));
+    }
+    if tag == 8 {
+        let (text, rest) = u2_in(bytes)?;
+        return Some((Constant::Text(text), rest));
+    }
+    if tag == 12 {
+        return name_type_in(bytes);
+    }
+    if tag == 15 {
+        return handle_in(bytes);
+    }
+    if tag == 16 {
+        let (descriptor, rest) = u2_in(bytes)?;
+        return Some((Constant::MethodType(descriptor), rest));
+    }
+    if tag == 18 {
+        return dynamic_in(bytes);
+    }
+    ref_in(tag, bytes)
+}
+
+/// The offset of bytes that go on to the end.
+fn place_of(end: u32, bytes: &[u8]) -> u32
+    ensures { result ≡ place end bytes.now }
+{
+    let left = bytes.len().min(end as usize);
+    end - left as u32
+}
+
+/// A text behind its length, of the constant at a place.
+#[tactic(auto, unfolding(class_text::specs::Pool::utf8_at))]
+fn utf8_in(alloc: Global, at: u32, bytes: &[u8]) -> Result<(Constant, &[u8]), PoolFault>
+    ensures { Gives (λ r. (r.0, r.1.now)) result (utf8_at at bytes.now) }
+{
+    let Some((len, rest)) = u2_in(bytes) else {
+        return Err(PoolFault::CutShort(at));
+    };
+    let len = usize::from(len);
+    if rest.len() < len {
+        return Err(PoolFault::CutShort(at));
+    }
+    let (text, rest) = rest.split_at(len);
+    if !is_modified_utf8(text) {
+        return Err(PoolFault::BadUtf8(at));
+    }
+    let text = Items::from_slice(alloc, text)?;
+    Ok((Constant::Utf8(text), rest))
+}
+
+fn is_tag(tag: u8) -> bool
+    ensures { result ≡ is_tag tag }
+{
+    matches!(tag, 1 | 3..=12 | 15 | 16 | 18)
+}
+
+fn is_wide(tag: u8) -> bool
+    ensures { result ≡ is_wide tag }
+{
+    tag == 5 || tag == 6
+}
+
+/// The constant at the front, where so many numbers are left.
+#[tactic(auto, unfolding(class_text::specs::Pool::constant_at))]
+fn constant_in(
+    alloc: Global,
+    end: u32,
+    left: u16,
+    bytes: &[u8],
+) -> Result<(Constant, &[u8]), PoolFault>
+    ensures { Gives (λ r. (r.0, r.1.now)) result (constant_at end left bytes.now) }
+{
+    let at = place_of(end, bytes);
+    let Some((tag, rest)) = bytes.split_first() else {
+        return Err(PoolFault::CutShort(at));
+    };
+    if !is_tag(*tag) {
+        return Err(PoolFault::BadTag(at, *tag));
+    }
+    if is_wide(*tag) && left < 2 {
+        return Err(PoolFault::BadTag(at, *tag));
+    }
+    if *tag == 1 {
+        return utf8_in(alloc, at, rest);
+    }
+    match fixed_in(*tag, rest) {
+        Some(found) => Ok(found),
+        None => Err(PoolFault::CutShort(at)),
+    }
+}
+
+fn takes_two(constant: &Constant) -> bool
+    ensures { result ≡ takes_two constant.now }
+{
+    match constant {
+        Constant::Long(_) => true,
+        Constant::Double(_) => true,
+        _ => false,
+    }
+}
+
+/// Reads what stands at the next number behind other constants, where so many numbers are left, and says whether a
+/// Second is to come then.
+fn step<'a>(
+    alloc: Global,
+    end: u32,
+    left: u16,
+    due: bool,
+    constants: &mut Constants,
+    bytes: &'a [u8],
+) -> Result<(bool, &'a [u8]), PoolFault>
+    requires { 0 < left }
+    ensures step { IfOk result (λ r. behind constants.new (constants_at end r.0 (left - 1) r.1.now) ≡ behind constants.old (constants_at end due left bytes.now)) }
+    ensures fault { IfErr result (λ e. Fails e (behind constants.old (constants_at end due left bytes.now))) }
+{
+    if due {
+        constants.push(Constant::Second)?;
+        return Ok((false, bytes));
+    }
+    match constant_in(alloc, end, left, bytes) {
+        Ok((constant, rest)) => {
+            let wide = takes_two(&constant);
+            constants.push(constant)?;
+            Ok((wide, rest))
+        }
+        Err(fault) => Err(fault),
+    }
+}
+
+/// The constants of so many numbers.
+fn constants_in(
+    alloc: Global,
+    end: u32,
+    numbers: u16,
+    bytes: &[u8],
+) -> Result<(Constants, &[u8]), PoolFault>
+    ensures { Gives (λ r. (r.0, r.1.now)) result (constants_at end false numbers bytes.now) }
+{
+    let mut constants = Items::new(alloc);
+    let mut rest = bytes;
+    let mut due = false;
+    for read in 0..numbers {
+        match step(alloc, end, numbers - read, due, &mut constants, rest) {
+            Ok((wide, more)) => {
+                due = wide;
+                rest = more;
+            }
+            Err(fault) => return Err(fault),
+        }
+    }
+    Ok((constants, rest))
+}
+
+/// The bytes that a constant takes.
+#[tactic(auto, unfolding(class_model::specs::Spelling::constant))]
+fn length_of(constant: &Constant) -> usize
+    requires { length (spelling.constant constant.now) < 2 ^ 32 }
+    ensures { result ≡ length (spelling.constant constant.now) }
+{
+    match constant {
+        Constant::Utf8(bytes) => 3 + bytes.len(),
+        Constant::Integer(_) => 5,
+        Constant::Float(_) => 5,
+        Constant::Long(_) => 9,
+        Constant::Double(_) => 9,
+        Constant::Class(_) => 3,
+        Constant::Text(_) => 3,
+        Constant::Ref { .. } => 5,
+        Constant::NameType { .. } => 5,
+        Constant::Handle { .. } => 4,
+        Constant::MethodType(_) => 3,
+        Constant::InvokeDynamic { .. } => 5,
+        Constant::Second => 0,
+    }
+}
+
+/// The place of the first constant with a wrong target, where the first constant stands at a place.
+fn wrong_in(pool: &Pool, at: u32) -> Option<u32>
+    requires { at + length (flat_map spelling.constant pool.now.constants) < 2 ^ 32 }
+    ensures { result ≡ wrong_at pool.now at pool.now.constants }
+{
+    let mut place = at as usize;
+    for constant in pool.constants.as_slice() {
+        if !has_targets(pool, constant) {
+            return Some(place as u32);
+        }
+        place += length_of(constant);
+    }
+    None
+}
+
+/// The pool, unless one of its targets is wrong.
+fn judge(at: u32, pool: Pool, after: &[u8]) -> Result<(Pool, &[u8]), PoolFault>
+    requires { at + length (flat_map spelling.constant pool.constants) < 2 ^ 32 }
+    ensures { Gives (λ r. (r.0, r.1.now)) result (judged at (pool.constants, after.entry.now)) }
+{
+    match wrong_in(&pool, at) {
+        Some(place) => Err(PoolFault::BadIndex(place)),
+        None => Ok((pool, after)),
+    }
+}
+
+/// The pool at the front of bytes that go on to the end of the file.
+#[tactic(auto, unfolding(class_text::specs::Pool::pool_at))]
+fn pool_in(alloc: Global, end: u32, bytes: &[u8]) -> Result<(Pool, &[u8]), PoolFault>
+    requires { length bytes.now ≤ end }
+    ensures { Gives (λ r. (r.0, r.1.now)) result (pool_at end bytes.now) }
+{
+    let at = place_of(end, bytes);
+    let Some((count, rest)) = u2_in(bytes) else {
+        return Err(PoolFault::CutShort(at));
+    };
+    if count == 0 {
+        return Err(PoolFault::BadIndex(at));
+    }
+    match constants_in(alloc, end, count - 1, rest) {
+        Ok((constants, after)) => judge(place_of(end, rest), Pool { constants }, after),
+        Err(fault) => Err(fault),
+    }
+}
+
+/// Reads the pool that begins at an offset of a file, its count first, and gives the offset after it. The refusal is
+/// the first bad place (JVMS 4.4): cuts, tags and texts in file order, and then the first constant with a wrong target.
+pub fn read_pool(alloc: Global, bytes: &[u8], at: u32) -> Result<(Pool, u32), PoolFault>
+    requires small { length bytes.now < 2 ^ 32 }
+    requires within { at ≤ length bytes.now }
+    // What is read is a pool, and is spelled there.
+    ensures found { IfOk result (λ r. IsPool r.0 × (drop at bytes.now ≡ spelling.pool r.0 ++ drop r.1 bytes.now) × (r.1 ≤ length bytes.now)) }
+    // What is spelled there is read.
+    ensures only { (pool : Pool) (rest : List ℕ) → IsPool pool → drop at bytes.now ≡ spelling.pool pool ++ rest
+        → IsOkUnlessMemory (λ r. (r.0 ≡ pool) × (drop r.1 bytes.now ≡ rest)) result }
+    // A refusal is the first bad place.
+    ensures fault { IfErr result (λ e. Fails e (pool_at (length bytes.now) (drop at bytes.now))) }
+{
+    let end = bytes.len() as u32;
+    let (_, rest) = bytes.split_at(at as usize);
+    match pool_in(alloc, end, rest) {
+        Ok((pool, after)) => Ok((pool, place_of(end, after))),
+        Err(fault) => Err(fault),
+    }
+}
