@@ -28,7 +28,7 @@ unfolding has_targets
 member_of_method p tag class name_type r e is f = rw (← is, ne_eqb tag 9 e) f
 
 -- the constant at an index, and those behind it
-item : (cs : List Constant) (i : ℕ) (c : Constant) → i < length cs → c ≡ get_or cs i c → drop i cs ≡ c ∷ drop (i + 1) cs
+pub item : (cs : List Constant) (i : ℕ) (c : Constant) → i < length cs → c ≡ get_or cs i c → drop i cs ≡ c ∷ drop (i + 1) cs
 item cs i c within is = drop-cons cs i c within ∙ rw (← is, add-one) refl
 
 pub wrong_there : (p : Pool) (at i : ℕ) (cs : List Constant) (c : Constant) → i < length cs → c ≡ get_or cs i c → false ≡ has_targets p c → Some at ≡ wrong_at p at (drop i cs)

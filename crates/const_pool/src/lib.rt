@@ -6,12 +6,16 @@
 mod numbers;
 mod pool_fault;
 mod pool_reader;
+mod pool_writer;
 mod targets;
+mod write_fault;
 
 pub use numbers::{u2_in, u4_in, u8_in};
 pub use pool_fault::PoolFault;
 pub use pool_reader::read_pool;
+pub use pool_writer::write_pool;
 pub use targets::has_targets;
+pub use write_fault::{Part, WriteFault};
 
 #[cfg(test)]
 mod tests;

@@ -175,7 +175,7 @@ fn constant_in(
     }
 }
 
-fn takes_two(constant: &Constant) -> bool
+pub(crate) fn takes_two(constant: &Constant) -> bool
     ensures { result ≡ takes_two constant.now }
 {
     match constant {

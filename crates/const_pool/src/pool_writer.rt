@@ -1,0 +1,257 @@
+//! Writing a pool.
+
+ghost use Rattle.std.specs.Prelude.{◌≡◌, ◌+◌, ◌++◌, ◌∷◌, [], ◌<◌, ◌≤◌, ◌^◌, length, true, false, Some, None, IfOk, IfErr, OnOk, IsOkUnless, nat_le, ◌&&◌};
+ghost use Rattle.std.specs.Int.{w16, w32, w64, to_be_bytes};
+ghost use Rattle.std.specs.List.{flat_map, AllByRecursion};
+ghost use Rattle.class_model.specs.Constants.{IsConstant, IsPool, is_second};
+ghost use Rattle.class_model.specs.Spelling as spelling;
+ghost use Rattle.const_pool.specs.Writing.{is_short, is_formed, is_placed, misfit_of, misfit_from, misfit, Names};
+
+use crate::pool_reader::takes_two;
+use crate::targets::has_targets;
+use crate::write_fault::{Part, WriteFault};
+use class_model::{Constant, Pool, is_modified_utf8};
+use std::alloc::{AllocError, Global};
+use tree_value::Bytes;
+
+fn is_short(constant: &Constant) -> bool
+    ensures { result ≡ is_short constant.now }
+{
+    match constant {
+        Constant::Utf8(bytes) => bytes.len() < 65536,
+        _ => true,
+    }
+}
+
+fn is_reference_tag(tag: u8) -> bool
+    ensures { result ≡ (nat_le 9 tag && nat_le tag 11) }
+{
+    9 <= tag && tag <= 11
+}
+
+fn is_formed(constant: &Constant) -> bool
+    ensures { result ≡ is_formed constant.now }
+{
+    match constant {
+        Constant::Utf8(bytes) => is_modified_utf8(bytes.as_slice()),
+        Constant::Ref { tag, .. } => is_reference_tag(*tag),
+        _ => true,
+    }
+}
+
+fn is_second(constant: &Constant) -> bool
+    ensures { result ≡ is_second constant.now }
+{
+    match constant {
+        Constant::Second => true,
+        _ => false,
+    }
+}
+
+fn is_placed(due: bool, last: bool, constant: &Constant) -> bool
+    ensures { result ≡ is_placed due last constant.now }
+{
+    if due != is_second(constant) {
+        return false;
+    }
+    if !last {
+        return true;
+    }
+    !takes_two(constant)
+}
+
+/// Why the constant of a number has no text there.
+#[tactic(auto, unfolding(crate::specs::Writing::misfit_of))]
+fn misfit_in(
+    pool: &Pool,
+    number: u32,
+    due: bool,
+    last: bool,
+    constant: &Constant,
+) -> Option<WriteFault>
+    ensures { result ≡ misfit_of pool.now number due last constant.now }
+{
+    if !is_short(constant) {
+        return Some(WriteFault::TooLarge(Part::Constant(number)));
+    }
+    if !is_formed(constant) {
+        return Some(WriteFault::BadShape(Part::Constant(number)));
+    }
+    if !is_placed(due, last, constant) {
+        return Some(WriteFault::BadShape(Part::Constant(number)));
+    }
+    if !has_targets(pool, constant) {
+        return Some(WriteFault::BadShape(Part::Constant(number)));
+    }
+    None
+}
+
+fn put_u2(out: &mut Vec<u8>, n: u16) -> Result<(), AllocError>
+    ensures { OnOk result (out.new.items ≡ out.old.items ++ to_be_bytes w16 n) }
+{
+    out.extend_from_slice(n.to_be_bytes().as_slice())
+}
+
+fn put_u4(out: &mut Vec<u8>, n: u32) -> Result<(), AllocError>
+    ensures { OnOk result (out.new.items ≡ out.old.items ++ to_be_bytes w32 n) }
+{
+    out.extend_from_slice(n.to_be_bytes().as_slice())
+}
+
+fn put_u8(out: &mut Vec<u8>, n: u64) -> Result<(), AllocError>
+    ensures { OnOk result (out.new.items ≡ out.old.items ++ to_be_bytes w64 n) }
+{
+    out.extend_from_slice(n.to_be_bytes().as_slice())
+}
+
+fn put_index(out: &mut Vec<u8>, tag: u8, n: u16) -> Result<(), AllocError>
+    ensures { OnOk result (out.new.items ≡ out.old.items ++ (tag ∷ to_be_bytes w16 n)) }
+{
+    out.push(tag)?;
+    put_u2(out, n)
+}
+
+fn put_word(out: &mut Vec<u8>, tag: u8, n: u32) -> Result<(), AllocError>
+    ensures { OnOk result (out.new.items ≡ out.old.items ++ (tag ∷ to_be_bytes w32 n)) }
+{
+    out.push(tag)?;
+    put_u4(out, n)
+}
+
+fn put_long(out: &mut Vec<u8>, tag: u8, n: u64) -> Result<(), AllocError>
+    ensures { OnOk result (out.new.items ≡ out.old.items ++ (tag ∷ to_be_bytes w64 n)) }
+{
+    out.push(tag)?;
+    put_u8(out, n)
+}
+
+fn put_pair(out: &mut Vec<u8>, tag: u8, m: u16, n: u16) -> Result<(), AllocError>
+    ensures { OnOk result (out.new.items ≡ out.old.items ++ (tag ∷ to_be_bytes w16 m ++ to_be_bytes w16 n)) }
+{
+    put_index(out, tag, m)?;
+    put_u2(out, n)
+}
+
+fn put_handle(out: &mut Vec<u8>, kind: u8, reference: u16) -> Result<(), AllocError>
+    ensures { OnOk result (out.new.items ≡ out.old.items ++ (15 ∷ kind ∷ to_be_bytes w16 reference)) }
+{
+    out.push(15)?;
+    put_index(out, kind, reference)
+}
+
+fn put_text(out: &mut Vec<u8>, text: &[u8]) -> Result<(), AllocError>
+    requires { length text.now < 2 ^ 16 }
+    ensures { OnOk result (out.new.items ≡ out.old.items ++ (1 ∷ to_be_bytes w16 (length text.now) ++ text.now)) }
+{
+    put_index(out, 1, text.len() as u16)?;
+    out.extend_from_slice(text)
+}
+
+/// Writes a constant at the end.
+#[tactic(auto, unfolding(class_model::specs::Spelling::constant))]
+fn put_constant(out: &mut Vec<u8>, constant: &Constant) -> Result<(), AllocError>
+    requires short { is_short constant.now ≡ true }
+    requires formed { is_formed constant.now ≡ true }
+    ensures fits { OnOk result (IsConstant constant.now) }
+    ensures ok { OnOk result (out.new.items ≡ out.old.items ++ spelling.constant constant.now) }
+{
+    match constant {
+        Constant::Utf8(text) => put_text(out, text.as_slice()),
+        Constant::Integer(n) => put_word(out, 3, *n),
+        Constant::Float(n) => put_word(out, 4, *n),
+        Constant::Long(n) => put_long(out, 5, *n),
+        Constant::Double(n) => put_long(out, 6, *n),
+        Constant::Class(name) => put_index(out, 7, *name),
+        Constant::Text(text) => put_index(out, 8, *text),
+        Constant::Ref {
+            tag,
+            class,
+            name_type,
+        } => put_pair(out, *tag, *class, *name_type),
+        Constant::NameType { name, descriptor } => put_pair(out, 12, *name, *descriptor),
+        Constant::Handle { kind, reference } => put_handle(out, *kind, *reference),
+        Constant::MethodType(descriptor) => put_index(out, 16, *descriptor),
+        Constant::InvokeDynamic {
+            bootstrap,
+            name_type,
+        } => put_pair(out, 18, *bootstrap, *name_type),
+        Constant::Second => Ok(()),
+    }
+}
+
+/// Writes the constant of a number at the end, if it may stand there.
+fn put_checked(
+    out: &mut Vec<u8>,
+    pool: &Pool,
+    number: u32,
+    due: bool,
+    last: bool,
+    constant: &Constant,
+) -> Result<(), WriteFault>
+    ensures none { OnOk result (misfit_of pool.now number due last constant.now ≡ None) }
+    ensures fits { OnOk result (IsConstant constant.now) }
+    ensures ok { OnOk result (out.new.items ≡ out.old.items ++ spelling.constant constant.now) }
+    ensures fault { IfErr result (λ e. Names e (misfit_of pool.now number due last constant.now)) }
+{
+    match misfit_in(pool, number, due, last, constant) {
+        Some(fault) => Err(fault),
+        None => match put_constant(out, constant) {
+            Ok(()) => Ok(()),
+            Err(_) => Err(WriteFault::Memory),
+        },
+    }
+}
+
+/// Writes the constants at the end, up to the first misfit.
+fn put_all(out: &mut Vec<u8>, pool: &Pool) -> Result<(), WriteFault>
+    requires { length pool.now.constants + 1 < 2 ^ 16 }
+    ensures none { OnOk result (misfit_from pool.now 1 false pool.now.constants ≡ None) }
+    ensures fits { OnOk result (AllByRecursion IsConstant pool.now.constants) }
+    ensures ok { OnOk result (out.new.items ≡ out.old.items ++ flat_map spelling.constant pool.now.constants) }
+    ensures fault { IfErr result (λ e. Names e (misfit_from pool.now 1 false pool.now.constants)) }
+{
+    let constants = pool.constants.as_slice();
+    let mut due = false;
+    for i in 0..constants.len() {
+        let constant = &constants[i];
+        let number = i as u32 + 1;
+        let last = i + 1 == constants.len();
+        match put_checked(out, pool, number, due, last, constant) {
+            Ok(()) => due = takes_two(constant),
+            Err(fault) => return Err(fault),
+        }
+    }
+    Ok(())
+}
+
+/// The text of a pool, its count first. A refusal names the first part in file order that has none: `TooLarge` where a
+/// count or a length doesn't fit its field, else `BadShape`.
+pub fn write_pool(alloc: Global, pool: &Pool) -> Result<Bytes, WriteFault>
+    ensures written { IfOk result (λ bytes. IsPool pool.now × (bytes ≡ spelling.pool pool.now)) }
+    ensures only { IsPool pool.now → IsOkUnless result WriteFault.Memory }
+    ensures fault { IfErr result (λ e. Names e (misfit pool.now)) }
+{
+    let numbers = pool.constants.as_slice().len();
+    if numbers >= 65535 {
+        return Err(WriteFault::TooLarge(Part::Pool));
+    }
+    let mut out = Vec::new(alloc);
+    match put_u2(&mut out, numbers as u16 + 1) {
+        Ok(()) => put_rest(out, pool),
+        Err(_) => Err(WriteFault::Memory),
+    }
+}
+
+/// The constants behind their count.
+fn put_rest(mut out: Vec<u8>, pool: &Pool) -> Result<Bytes, WriteFault>
+    requires few { length pool.now.constants + 1 < 2 ^ 16 }
+    requires count { out.items ≡ to_be_bytes w16 (length pool.now.constants + 1) }
+    ensures written { IfOk result (λ bytes. IsPool pool.now × (bytes ≡ spelling.pool pool.now)) }
+    ensures only { IsPool pool.now → IsOkUnless result WriteFault.Memory }
+    ensures fault { IfErr result (λ e. Names e (misfit pool.now)) }
+{
+    match put_all(&mut out, pool) {
+        Ok(()) => Ok(Bytes::from_vec(out)),
+        Err(fault) => Err(fault),
+    }
+}
