@@ -1,5 +1,5 @@
 -- Where constants stand, and what is left behind a pool.
-use Rattle.std.proofs.Common.{◌≡◌, ℕ, zero, suc, eqb, ◌-◌, ◌+◌, ◌≤◌, ◌<◌, ◌^◌, Bool, true, false, ◌&&◌, List, [], ◌∷◌, ◌++◌, length, take, drop, get_or, flat_map, Option, Some, None, Result, Ok, Err, refl, sym, ap, subst, ◌∙◌, append_assoc, arith, add-one, drop-cons, eq-eqb}
+use Rattle.std.proofs.Common.{◌≡◌, ℕ, ◌-◌, ◌+◌, ◌≤◌, ◌<◌, ◌^◌, Bool, true, false, List, ◌∷◌, ◌++◌, length, take, drop, get_or, flat_map, Some, None, Ok, Err, refl, sym, ap, subst, ◌∙◌, append_assoc, arith, add-one, drop-cons, eq-eqb}
 use Rattle.std.specs.Int.{w16, to_be_bytes}
 use Rattle.std.proofs.Math.ListN.{drop_of_length-le}
 use Rattle.std.proofs.lemmas.Bool.{ne_eqb}
@@ -9,7 +9,7 @@ use Rattle.class_model.specs.declared.constant_pool.Constant.TheVariants.{Ref}
 use Rattle.class_model.specs.declared.constant_pool.Pool.{Pool}
 use Rattle.class_model.specs.Constants.{IsPool, constant_at as number, is_some_that, is_class_constant, is_for_field, is_for_method, has_targets}
 use Rattle.class_model.specs.Spelling.{constant, pool}
-use Rattle.class_text.specs.Reading.{Fault, cut_short, bad_tag, bad_text, bad_index, Reading, place, number_at, IsBytes}
+use Rattle.class_text.specs.Reading.{cut_short, bad_tag, bad_text, bad_index, Reading, place, number_at, IsBytes}
 use Rattle.class_text.specs.Pool.{constants_at, wrong_at, pool_at}
 use Rattle.class_text.proofs.Numbers.{IsBytes-drop, ok_is, wide16, number_takes}
 use Rattle.class_text.proofs.Pools.{constants_taken, pool_taken, pool_again}

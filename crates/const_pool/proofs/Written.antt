@@ -1,14 +1,13 @@
 -- A pool is written exactly where it has no misfit.
-use Rattle.std.proofs.Common.{◌≡◌, ℕ, zero, suc, eqb, ltb, leb, ◌-◌, ◌+◌, ◌≤◌, ◌<◌, ◌^◌, Bool, true, false, not, ◌&&◌, cond, List, [], ◌∷◌, ◌++◌, length, take, drop, get_or, flat_map, Option, Some, None, Result, Ok, Err, OnOk, IsOkUnless, IsTrue, refl, sym, ap, subst, ◌∙◌, append_assoc, arith, inl, inr, add-one, length-drop}
+use Rattle.std.proofs.Common.{◌≡◌, ℕ, zero, suc, eqb, leb, ◌+◌, ◌≤◌, ◌<◌, ◌^◌, Bool, true, false, not, ◌&&◌, cond, List, [], ◌∷◌, ◌++◌, length, take, drop, get_or, flat_map, Option, Some, None, Result, Ok, Err, OnOk, IsTrue, refl, sym, ap, ◌∙◌, append_assoc, arith, inl, inr, add-one, length-drop}
 use Rattle.std.specs.List.{AllByRecursion}
 use Rattle.std.specs.Option.{option_or}
 use Rattle.std.specs.Int.{w16, to_be_bytes}
 use Rattle.std.proofs.Math.ListN.{drop_of_length-le}
-use Rattle.std.proofs.lemmas.Bool.{cases_Bool, and_parts, and_from, ltb-true, lt-ltb, leb-true, le-leb, not-true, not-false, eqb-true, ne_eqb, eq-eqb, le-ltb}
-use Rattle.std.proofs.lemmas.Bool.Decides.{nat_tests}
-use Rattle.std.proofs.lemmas.List.{length-append, append-nil, take_all}
+use Rattle.std.proofs.lemmas.Bool.{cases_Bool, and_parts, and_from, ltb-true, lt-ltb, le-leb, eqb-true, ne_eqb, eq-eqb, le-ltb}
+use Rattle.std.proofs.lemmas.List.{append-nil}
 use Rattle.class_model.specs.declared.constant_pool.Constant.{Constant}
-use Rattle.class_model.specs.declared.constant_pool.Constant.TheVariants.{Utf8, Ref, Integer, Float, Long, Double, Class, Text, NameType, Handle, MethodType, InvokeDynamic, Second}
+use Rattle.class_model.specs.declared.constant_pool.Constant.TheVariants.{Utf8, Ref}
 use Rattle.class_model.specs.declared.constant_pool.Pool.{Pool}
 use Rattle.class_model.specs.Constants.{IsConstant, IsPool, has_targets, has_seconds, takes_two, is_second}
 use Rattle.class_model.specs.Spelling.{constant, pool}

@@ -6,7 +6,6 @@ use Rattle.class_model.specs.declared.constant_pool.Constant.TheVariants.{Utf8, 
 use Rattle.class_model.specs.declared.constant_pool.Pool.{Pool}
 use Rattle.class_model.specs.Units.{is_text}
 use Rattle.class_model.specs.Constants.{field_tag, interface_method_tag, has_targets, takes_two, is_second}
-use Rattle.const_pool.specs.declared.write_fault.Part.{Part}
 use Rattle.const_pool.specs.declared.write_fault.Part.TheVariants as parts
 use Rattle.const_pool.specs.declared.write_fault.WriteFault.{WriteFault}
 use Rattle.const_pool.specs.declared.write_fault.WriteFault.TheVariants.{TooLarge, BadShape, Memory}

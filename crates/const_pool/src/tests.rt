@@ -3,7 +3,10 @@
 ghost use Rattle.std.specs.Prelude.{◌<◌, ◌^◌, length};
 
 use super::*;
+use class_model::{Constant, Pool};
+use sqlite_items::Items;
 use std::alloc::Global;
+use std::test::Fail;
 
 fn fault_of(alloc: Global, bytes: &[u8]) -> Option<PoolFault>
     requires { length bytes.now < 2 ^ 32 }
@@ -47,4 +50,27 @@ fn a_pool_is_read_to_its_end(rt: HostRuntime) {
     };
     assert!(rt; read);
     assert!(rt; fault_of(rt.alloc(), b"\x00\x02\x01\x00\x03\xed\xa0\xbd").is_none());
+}
+
+#[test]
+fn what_is_read_is_written_again(rt: HostRuntime) -> Result<(), Fail> {
+    let bytes = b"\x00\x05\x01\x00\x01A\x07\x00\x01\x05\x00\x00\x00\x00\x00\x00\x00\x07";
+    let (pool, _) = read_pool(rt.alloc(), bytes, 0)?;
+    let written = write_pool(rt.alloc(), &pool)?;
+    assert!(rt; written.as_slice() == bytes.as_slice());
+    Ok(())
+}
+
+#[test]
+fn a_misfit_is_named(rt: HostRuntime) -> Result<(), Fail> {
+    let mut constants = Items::new(rt.alloc());
+    constants.push(Constant::Class(2))?;
+    constants.push(Constant::Utf8(Items::from_slice(rt.alloc(), b"A")?))?;
+    constants.push(Constant::Long(7))?;
+    let refused = match write_pool(rt.alloc(), &Pool { constants }) {
+        Err(WriteFault::BadShape(part)) => part == Part::Constant(3),
+        _ => false,
+    };
+    assert!(rt; refused);
+    Ok(())
 }

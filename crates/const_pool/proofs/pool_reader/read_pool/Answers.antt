@@ -1,4 +1,4 @@
-use Rattle.std.proofs.Common.{◌≡◌, Ok, sym, ◌∙◌, ap, arith, length, drop}
+use Rattle.std.proofs.Common.{sym, ◌∙◌, ap, arith, length, drop}
 use Rattle.class_text.specs.Reading.{IsBytes}
 use Rattle.class_text.specs.Pool.{pool_at}
 use Rattle.const_pool.specs.Faults.{Fails}

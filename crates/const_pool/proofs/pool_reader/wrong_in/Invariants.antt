@@ -1,4 +1,4 @@
-use Rattle.std.proofs.Common.{◌≡◌, ◌+◌, ◌<◌, ◌^◌, drop, flat_map, length}
+use Rattle.std.proofs.Common.{◌≡◌, ◌+◌, drop, flat_map, length}
 use Rattle.class_model.specs.Spelling.{constant}
 use Rattle.class_text.specs.Pool.{wrong_at}
 use Rattle.const_pool.proofs.pool_reader.wrong_in.Given as goal

@@ -1,4 +1,3 @@
-use Rattle.std.proofs.Common.{sym}
 use Rattle.const_pool.proofs.Places.{member_of_field, member_of_method}
 use Rattle.const_pool.proofs.targets.is_member.Goals as goal
 
