@@ -15,8 +15,6 @@ mod recorded;
 mod reply;
 mod sending;
 mod takes;
-#[cfg(test)]
-mod tests;
 mod top;
 mod words;
 
