@@ -1,0 +1,4 @@
+mod Lists
+pub mod EntryText
+mod Members
+mod Rising
