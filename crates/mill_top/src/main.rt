@@ -15,6 +15,8 @@ mod recorded;
 mod reply;
 mod sending;
 mod takes;
+#[cfg(test)]
+mod tests;
 mod top;
 mod words;
 
