@@ -15,7 +15,9 @@ pub use pool_fault::PoolFault;
 pub use pool_reader::read_pool;
 pub use pool_writer::write_pool;
 pub use targets::has_targets;
-pub use write_fault::{Part, WriteFault};
+pub use write_fault::{
+    AnnotationPart, AttributePart, BootstrapPart, FramePart, Holder, MemberPart, Part, WriteFault,
+};
 
 #[cfg(test)]
 mod tests;

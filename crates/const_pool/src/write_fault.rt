@@ -6,13 +6,109 @@ ghost use Rattle.const_pool.specs.declared.write_fault.WriteFault.TheVariants as
 use std::alloc::{AllocError, AllocFailed};
 use thiserror::Error;
 
-/// An item of a class file.
+/// An item of a class file that a writer can refuse. Constants are numbered from 1, all else from 0.
 #[derive(Clone, Copy, Debug, PartialEq, Eq)]
 pub enum Part {
+    /// The major version.
+    Major,
     /// The constant pool as a whole.
     Pool,
     /// The constant of a number, from 1.
     Constant(u32),
+    ThisClass,
+    SuperClass,
+    /// The list of interfaces as a whole.
+    Interfaces,
+    Interface(u32),
+    /// The list of fields as a whole.
+    Fields,
+    Field(u32, MemberPart),
+    /// The list of methods as a whole.
+    Methods,
+    Method(u32, MemberPart),
+    /// The list of attributes as a whole.
+    Attributes(Holder),
+    Attribute(Holder, u32, AttributePart),
+}
+
+/// What has attributes.
+#[derive(Clone, Copy, Debug, PartialEq, Eq)]
+pub enum Holder {
+    Class,
+    Field(u32),
+    Method(u32),
+    /// The code that is this attribute of a method.
+    Code { method: u32, attribute: u32 },
+}
+
+/// An item of a field or a method, beside its attributes.
+#[derive(Clone, Copy, Debug, PartialEq, Eq)]
+pub enum MemberPart {
+    Name,
+    /// The descriptor, also where an earlier member has this name and descriptor.
+    Descriptor,
+    /// The code that a method lacks.
+    Code,
+}
+
+/// An item of an attribute. Its content is that of its form.
+#[derive(Clone, Copy, Debug, PartialEq, Eq)]
+pub enum AttributePart {
+    /// The name, also where its form has no place there, or where it stands there for the second time.
+    Name,
+    /// The length of the content.
+    Length,
+    /// The bytes of code.
+    Code,
+    /// The exception table as a whole.
+    Handlers,
+    Handler(u32),
+    /// The constant of a field.
+    Value,
+    /// The list of frames as a whole.
+    Frames,
+    Frame(u32, FramePart),
+    /// The list of bootstrap methods as a whole.
+    Bootstraps,
+    Bootstrap(u32, BootstrapPart),
+    /// The list of annotations as a whole.
+    Annotations,
+    Annotation(u32, AnnotationPart),
+}
+
+/// An item of a frame.
+#[derive(Clone, Copy, Debug, PartialEq, Eq)]
+pub enum FramePart {
+    /// The tag, which says how many types are written, and which delta stands in it.
+    Tag,
+    /// The list of locals as a whole.
+    Locals,
+    Local(u32),
+    /// The list of stack items as a whole.
+    Stack,
+    StackItem(u32),
+}
+
+/// An item of a bootstrap method.
+#[derive(Clone, Copy, Debug, PartialEq, Eq)]
+pub enum BootstrapPart {
+    Handle,
+    /// The list of arguments as a whole.
+    Arguments,
+    Argument(u32),
+}
+
+/// An item of an annotation.
+#[derive(Clone, Copy, Debug, PartialEq, Eq)]
+pub enum AnnotationPart {
+    /// The descriptor of its type.
+    Kind,
+    /// The list of pairs as a whole.
+    Pairs,
+    /// The name of a pair.
+    Name(u32),
+    /// The value of a pair, with all that is nested in it.
+    Value(u32),
 }
 
 /// Why something has no text. It names the first part in file order that fails.
