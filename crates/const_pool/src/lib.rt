@@ -13,11 +13,9 @@ mod write_fault;
 pub use numbers::{u2_in, u4_in, u8_in};
 pub use pool_fault::PoolFault;
 pub use pool_reader::read_pool;
-pub use pool_writer::write_pool;
+pub use pool_writer::{put_u2, put_u4, write_pool};
 pub use targets::has_targets;
-pub use write_fault::{
-    AnnotationPart, AttributePart, BootstrapPart, FramePart, Holder, MemberPart, Part, WriteFault,
-};
+pub use write_fault::{AttributeId, AttributePart, Holder, MemberPart, Part, WriteFault};
 
 #[cfg(test)]
 mod tests;

@@ -86,13 +86,15 @@ fn misfit_in(
     None
 }
 
-fn put_u2(out: &mut Vec<u8>, n: u16) -> Result<(), AllocError>
+/// Writes a u2 at the end.
+pub fn put_u2(out: &mut Vec<u8>, n: u16) -> Result<(), AllocError>
     ensures { OnOk result (out.new.items ≡ out.old.items ++ to_be_bytes w16 n) }
 {
     out.extend_from_slice(n.to_be_bytes().as_slice())
 }
 
-fn put_u4(out: &mut Vec<u8>, n: u32) -> Result<(), AllocError>
+/// Writes a u4 at the end.
+pub fn put_u4(out: &mut Vec<u8>, n: u32) -> Result<(), AllocError>
     ensures { OnOk result (out.new.items ≡ out.old.items ++ to_be_bytes w32 n) }
 {
     out.extend_from_slice(n.to_be_bytes().as_slice())

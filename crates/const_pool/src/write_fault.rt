@@ -26,9 +26,9 @@ pub enum Part {
     /// The list of methods as a whole.
     Methods,
     Method(u32, MemberPart),
-    /// The list of attributes as a whole.
+    /// A list of attributes as a whole.
     Attributes(Holder),
-    Attribute(Holder, u32, AttributePart),
+    Attribute(AttributeId, AttributePart),
 }
 
 /// What has attributes.
@@ -37,24 +37,31 @@ pub enum Holder {
     Class,
     Field(u32),
     Method(u32),
-    /// The code that is this attribute of a method.
-    Code { method: u32, attribute: u32 },
+    /// The code of a method.
+    Code(u32),
+}
+
+/// An attribute, by its number among those of its holder.
+#[derive(Clone, Copy, Debug, PartialEq, Eq)]
+pub struct AttributeId {
+    pub holder: Holder,
+    pub number: u32,
 }
 
 /// An item of a field or a method, beside its attributes.
 #[derive(Clone, Copy, Debug, PartialEq, Eq)]
 pub enum MemberPart {
     Name,
-    /// The descriptor, also where an earlier member has this name and descriptor.
+    /// The descriptor, also where an earlier member has this name and this descriptor.
     Descriptor,
     /// The code that a method lacks.
     Code,
 }
 
-/// An item of an attribute. Its content is that of its form.
+/// An item of an attribute. One that is numbered stands for all that is in it.
 #[derive(Clone, Copy, Debug, PartialEq, Eq)]
 pub enum AttributePart {
-    /// The name, also where its form has no place there, or where it stands there for the second time.
+    /// The name, also where the attribute's form has no place there, or where the name stands there already.
     Name,
     /// The length of the content.
     Length,
@@ -67,48 +74,13 @@ pub enum AttributePart {
     Value,
     /// The list of frames as a whole.
     Frames,
-    Frame(u32, FramePart),
+    Frame(u32),
     /// The list of bootstrap methods as a whole.
     Bootstraps,
-    Bootstrap(u32, BootstrapPart),
+    Bootstrap(u32),
     /// The list of annotations as a whole.
     Annotations,
-    Annotation(u32, AnnotationPart),
-}
-
-/// An item of a frame.
-#[derive(Clone, Copy, Debug, PartialEq, Eq)]
-pub enum FramePart {
-    /// The tag, which says how many types are written, and which delta stands in it.
-    Tag,
-    /// The list of locals as a whole.
-    Locals,
-    Local(u32),
-    /// The list of stack items as a whole.
-    Stack,
-    StackItem(u32),
-}
-
-/// An item of a bootstrap method.
-#[derive(Clone, Copy, Debug, PartialEq, Eq)]
-pub enum BootstrapPart {
-    Handle,
-    /// The list of arguments as a whole.
-    Arguments,
-    Argument(u32),
-}
-
-/// An item of an annotation.
-#[derive(Clone, Copy, Debug, PartialEq, Eq)]
-pub enum AnnotationPart {
-    /// The descriptor of its type.
-    Kind,
-    /// The list of pairs as a whole.
-    Pairs,
-    /// The name of a pair.
-    Name(u32),
-    /// The value of a pair, with all that is nested in it.
-    Value(u32),
+    Annotation(u32),
 }
 
 /// Why something has no text. It names the first part in file order that fails.
