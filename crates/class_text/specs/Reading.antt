@@ -9,12 +9,25 @@ pub data Fault : Type 0 where
   bad_tag : ℕ → ℕ → Fault
   bad_text : ℕ → Fault
   bad_index : ℕ → Fault
+  bad_magic : Fault
+  bad_major : ℕ → Fault
+  bad_attribute : ℕ → Fault
+  second_attribute : ℕ → Fault
+  code_missing : ℕ → Fault
+  bytes_left : ℕ → Fault
 
+-- a file begins with its magic, and the major version stands behind it and the minor one
 abbrev pub place_of : Fault → ℕ
 place_of (cut_short at) = at
 place_of (bad_tag at tag) = at
 place_of (bad_text at) = at
 place_of (bad_index at) = at
+place_of bad_magic = 0
+place_of (bad_major version) = 6
+place_of (bad_attribute at) = at
+place_of (second_attribute at) = at
+place_of (code_missing at) = at
+place_of (bytes_left at) = at
 
 abbrev pub is_cut : Fault → Bool
 is_cut (cut_short at) = true

@@ -18,4 +18,6 @@ pub use targets::has_targets;
 pub use write_fault::{AttributeId, AttributePart, Holder, MemberPart, Part, WriteFault};
 
 #[cfg(test)]
+mod tables;
+#[cfg(test)]
 mod tests;
