@@ -6,3 +6,6 @@ pub mod Continued
 pub mod Readers
 pub mod Parts
 pub mod Once
+pub mod Numbered
+pub mod FrameLaws
+pub mod ElementLaws

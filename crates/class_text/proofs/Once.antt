@@ -3,11 +3,8 @@ use Rattle.std.proofs.Common.{◌≡◌, Bool, true, false, not, ◌&&◌, ◌||
 use Rattle.std.specs.List.{list_any, AllByRecursion}
 use Rattle.std.proofs.lemmas.Bool.{and_parts, and_from}
 use Rattle.class_model.specs.Attributes.{once_each}
+use Rattle.class_text.specs.Attributes.{is_first}
 use Rattle.class_text.proofs.Parts.{AllAfter}
-
--- an item that none of those before it is the same as
-abbrev pub is_first : {A : Type 0} → (A → Bool) → (A → A → Bool) → List A → A → Bool
-is_first counts same before x = not (list_any (λ e. counts e && same e x) before)
 
 -- one of which no later one is the same
 abbrev is_last : {A : Type 0} → (A → Bool) → (A → A → Bool) → List A → A → Bool
@@ -31,12 +28,14 @@ parts_from false a b e f = refl
 
 module _ {A : Type 0} (counts : A → Bool) (same : A → A → Bool) where
   none_before : (x : A) (xs before : List A) → is_first counts same before x ≡ true → AllByRecursion (λ e. is_last counts same xs e ≡ true) before → AllByRecursion (λ e. is_last counts same (x ∷ xs) e ≡ true) before
+  unfolding is_first
   none_before x xs [] f l = tt
   none_before x xs (e ∷ before) f l =
       let p = both (counts e && same e x) (list_any (λ d. counts d && same d x) before) f in
       (parts_from (counts e) (same e x) (list_any (same e) xs) p.0 l.0, none_before x xs before p.1 l.1)
 
   first_of_none : (x : A) (xs before : List A) → AllByRecursion (λ e. is_last counts same (x ∷ xs) e ≡ true) before → (is_first counts same before x ≡ true) × AllByRecursion (λ e. is_last counts same xs e ≡ true) before
+  unfolding is_first
   first_of_none x xs [] l = (refl, tt)
   first_of_none x xs (e ∷ before) l =
       let p = parts_of (counts e) (same e x) (list_any (same e) xs) l.0 in
@@ -52,6 +51,7 @@ module _ {A : Type 0} (counts : A → Bool) (same : A → A → Bool) where
   with_end P x (e ∷ before) all p = (all.0, with_end P x before all.1 p)
 
   pub once_from : (before xs : List A) → AllAfter (λ b x. is_first counts same b x ≡ true) before xs → (once_each counts same xs ≡ true) × AllByRecursion (λ e. is_last counts same xs e ≡ true) before
+  unfolding is_first
   once_from before [] all = (refl, none before)
     where
       nothing : (c : Bool) → not (c && false) ≡ true
@@ -67,6 +67,7 @@ module _ {A : Type 0} (counts : A → Bool) (same : A → A → Bool) where
       (and_from (is_last counts same xs x) (once_each counts same xs) r.1 q.0, none_before x xs before all.0 r.0)
 
   pub once_after : (before xs : List A) → once_each counts same xs ≡ true → AllByRecursion (λ e. is_last counts same xs e ≡ true) before → AllAfter (λ b x. is_first counts same b x ≡ true) before xs
+  unfolding is_first
   once_after before [] once last = tt
   once_after before (x ∷ xs) once last =
       let p = and_parts (is_last counts same xs x) (once_each counts same xs) once in

@@ -4,8 +4,10 @@ use Rattle.std.specs.List.{AllByRecursion}
 use Rattle.std.specs.Int.{Width, w16, w32, to_be_bytes}
 use Rattle.std.proofs.lemmas.Bool.{cases_Bool, eqb-true, ltb-false, le-ltb}
 use Rattle.std.proofs.lemmas.List.{take_at, drop_at, take-append-drop, length-append, length-take}
+use Rattle.class_model.specs.Annotations.{IsCounted}
+use Rattle.class_model.specs.Spelling.{counted}
 use Rattle.class_text.specs.Reading.{Fault, cut_short, bad_index, bad_attribute, is_cut, Reading, ◌>>=◌, place, number_at, or_cut, IsBytes}
-use Rattle.class_text.specs.Readers.{Reader, u1_at, u2_at, u4_at, index_at, many_after, counted_after, run_at, whole, within}
+use Rattle.class_text.specs.Readers.{Reader, u1_at, u2_at, u4_at, index_at, many_after, counted_at, counted_after, run_at, whole, within}
 use Rattle.class_text.proofs.Numbers.{IsBytes-drop, IsBytes-take, IsBytes-rest, bind_ok, ok_is, Takes, Takes-then, IsWide, wide16, wide32, number_takes, number_again}
 use Rattle.class_text.proofs.Places.{Failed, first, later, bind_err, err_is}
 use Rattle.class_text.proofs.Readers.{Reads, ReadsAll, as_reads, reads_on, give_reads, bind, bind_reads, unless_reads, here_reads, place_on}
@@ -145,6 +147,12 @@ counted_reads one P s r =
     (bind_reads u2_at (λ n. n < 2 ^ 16) (to_be_bytes w16) (many_after one []) (λ n xs. (length xs ≡ n) × AllAfter P [] xs) (λ n. flat_map s) length
     u2_reads (λ n low. many_reads one P s r n []) (λ n xs q. q.0))
     (λ xs p. (p.0, p.1.1)) (λ xs p. (p.0, (refl, p.1))) (λ xs p. refl)
+
+-- items that are read one by one, behind their count
+pub each_counted : {A : Type 0} (one : Reader A) (P : A → Type 0) (s : A → List ℕ) → Reads one P s → Reads (counted_at one) (IsCounted P) (counted s)
+each_counted one P s r =
+    as_reads (counted_at one) (λ xs. (length xs < 2 ^ 16) × AllAfter (λ before. P) [] xs) (counted s) (IsCounted P) (counted s) (counted_reads (λ before. one) (λ before. P) s (λ before. r))
+      (λ xs p. (p.0, all_each P [] xs p.1)) (λ xs p. (p.0, all_after P [] xs p.1)) (λ xs p. refl)
 
 -- ---- runs
 

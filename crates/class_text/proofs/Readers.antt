@@ -117,3 +117,31 @@ here_reads next P s r = record {
   stays = λ end bytes more f are plain e.
       ap (λ (at : ℕ). next at (end + length more) (bytes ++ more)) (place_on end bytes more) ∙ (r (place end bytes)).stays end bytes more f are plain e;
 }
+
+-- a reading that is refused
+pub no_reads : {A : Type 0} (f : Fault) (P : A → Type 0) (s : A → List ℕ) → ((x : A) → P x → ⊥) → Reads (λ end bytes. Err f) P s
+no_reads f P s none = record {
+  takes = λ end bytes x rest are e. absurd cc;
+  again = λ end x rest p. absurd (none x p);
+  stays = λ end bytes more g are plain e. e;
+}
+
+-- a reader of a part, and what is made of it
+pub made_reads : {A B : Type 0} (read : Reader A) (P : A → Type 0) (s : A → List ℕ) (make : A → B) (back : B → A) → ((x : A) → back (make x) ≡ x) → Reads read P s
+    → Reads (bind read (λ x end bytes. Ok (make x, bytes))) (λ y. P (back y) × (y ≡ make (back y))) (λ y. s (back y))
+made_reads {A = A} read P s make back known r =
+    as_reads (bind read (λ x end bytes. Ok (make x, bytes))) _ _ (λ y. P (back y) × (y ≡ make (back y))) (λ y. s (back y))
+      (bind_reads read P s (λ x end bytes. Ok (make x, bytes)) (λ x y. y ≡ make x) (λ x y. []) back r (λ x p. give_reads (make x)) (λ x y q. ap back q ∙ known x))
+      (λ y p. p) (λ y p. p) (λ y p. append-nil (s (back y)))
+
+-- What is made of a part is one level of a value; `out` opens it.
+pub layer_reads : {A E L : Type 0} (roll : L → E) (out : E → L) → ((l : L) → out (roll l) ≡ l) → ((e : E) → roll (out e) ≡ e)
+    → (read : Reader A) (P : A → Type 0) (s : A → List ℕ) (make : A → L) (back : L → A) → ((x : A) → back (make x) ≡ x) → (Q : L → Type 0) (t : L → List ℕ) → Reads read P s
+    → ((x : A) → P x → Q (make x)) → ((l : L) → Q l → P (back l) × (l ≡ make (back l))) → ((x : A) → P x → s x ≡ t (make x))
+    → Reads (bind read (λ x end bytes. Ok (roll (make x), bytes))) (λ e. Q (out e)) (λ e. t (out e))
+layer_reads roll out out_roll roll_out read P s make back known Q t r on from same =
+    as_reads (bind read (λ x end bytes. Ok (roll (make x), bytes))) (λ e. P (back (out e)) × (e ≡ roll (make (back (out e))))) (λ e. s (back (out e))) (λ e. Q (out e)) (λ e. t (out e))
+      (made_reads read P s (λ x. roll (make x)) (λ e. back (out e)) (λ x. ap back (out_roll (make x)) ∙ known x) r)
+      (λ e p. let opened = ap out p.1 ∙ out_roll (make (back (out e))) in subst Q (sym opened) (on (back (out e)) p.0))
+      (λ e q. let b = from (out e) q in (b.0, sym (roll_out e) ∙ ap roll b.1))
+      (λ e q. let b = from (out e) q in same (back (out e)) b.0 ∙ ap t (sym b.1))
