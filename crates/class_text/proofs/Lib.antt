@@ -9,3 +9,6 @@ pub mod Once
 pub mod Numbered
 pub mod FrameLaws
 pub mod ElementLaws
+pub mod AttributeLaws
+pub mod FramedLaws
+pub mod CodeLaws

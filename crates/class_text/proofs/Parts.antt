@@ -1,5 +1,5 @@
 -- What holds of the readers of numbers, indices, lists and runs.
-use Rattle.std.proofs.Common.{◌≡◌, ℕ, zero, suc, eqb, ltb, ◌+◌, ◌^◌, ◌<◌, ◌≤◌, Bool, true, false, cond, List, [], ◌∷◌, ◌++◌, length, take, drop, flat_map, Option, Some, None, Ok, Err, refl, sym, ap, subst, ◌∙◌, append_assoc, append-nil, arith, inl, inr}
+use Rattle.std.proofs.Common.{◌≡◌, ℕ, zero, suc, eqb, ltb, ◌+◌, ◌^◌, ◌<◌, ◌≤◌, Bool, true, false, cond, List, [], ◌∷◌, ◌++◌, length, take, drop, map, flat_map, Option, Some, None, Ok, Err, refl, sym, ap, subst, ◌∙◌, append_assoc, append-nil, arith, inl, inr}
 use Rattle.std.specs.List.{AllByRecursion}
 use Rattle.std.specs.Int.{Width, w16, w32, to_be_bytes}
 use Rattle.std.proofs.lemmas.Bool.{cases_Bool, eqb-true, ltb-false, le-ltb}
@@ -156,11 +156,17 @@ each_counted one P s r =
 
 -- ---- runs
 
+pub run_again : (len end : ℕ) (run rest : List ℕ) → length run ≡ len → run_at len end (run ++ rest) ≡ Ok (run, rest)
+unfolding run_at
+run_again len end run rest size =
+    let long : ltb (length (run ++ rest)) len ≡ false = le-ltb _ _ (omega (arith, length-append run rest)) in
+    rw (long, take_at run rest len size, drop_at run rest len size) refl
+
 pub run_reads : (len : ℕ) → Reads (run_at len) (λ bytes. (length bytes ≡ len) × IsBytes bytes) (λ bytes. bytes)
 unfolding run_at
 run_reads len = record {
   takes = λ end bytes run rest are e. taken end bytes run rest are e;
-  again = λ end run rest p. again_run end run rest p.0;
+  again = λ end run rest p. run_again len end run rest p.0;
   stays = λ end bytes more f are plain e. never end bytes more f plain e;
 }
   where
@@ -170,13 +176,8 @@ run_reads len = record {
       | inr g ↦ (let long : len ≤ length bytes = ltb-false (length bytes) len g in
           let same = ok_is (take len bytes, drop len bytes) (run, rest) (rw g at e) in
           subst (λ (p : List ℕ × List ℕ). ((length p.0 ≡ len) × IsBytes p.0) × Takes bytes p.0 p.1) same
-          ((omega (arith, length-take len bytes), IsBytes-take len bytes are), record { parts = sym (take-append-drop len bytes); rest_fits = IsBytes-drop len bytes are }))
+            ((omega (arith, length-take len bytes), IsBytes-take len bytes are), record { parts = sym (take-append-drop len bytes); rest_fits = IsBytes-drop len bytes are }))
     ]
-
-    again_run : (end : ℕ) (run rest : List ℕ) → length run ≡ len → run_at len end (run ++ rest) ≡ Ok (run, rest)
-    again_run end run rest size =
-        let long : ltb (length (run ++ rest)) len ≡ false = le-ltb _ _ (omega (arith, length-append run rest)) in
-        rw (long, take_at run rest len size, drop_at run rest len size) refl
 
     never : (end : ℕ) (bytes more : List ℕ) (f : Fault) → is_cut f ≡ false → run_at len end bytes ≡ Err f → run_at len (end + length more) (bytes ++ more) ≡ Err f
     never end bytes more f plain e = elim (cases_Bool (ltb (length bytes) len)) [
@@ -201,25 +202,25 @@ whole_ok {A = A} at rest (Ok (y, left)) x after e = elim (cases_Bool (eqb (lengt
 whole_ok at rest (Err f) x after e = absurd cc
 
 pub within_reads : {A : Type 0} (at len : ℕ) (inner : Reader A) (P : A → Type 0) (s : A → List ℕ) → ReadsAll inner P s
-    → Reads (within at len inner) (λ x. P x × (length (s x) ≡ len) × IsBytes (s x)) s
+    → Reads (within at len inner) (λ x. P x × (length (s x) ≡ len)) s
 unfolding within whole
 within_reads {A = A} at len inner P s r = record { takes = taken; again = again_in; stays = stays_in }
   where
     behind : (end : ℕ) → List ℕ × List ℕ → Reading A
     behind end run = whole at run.1 (inner (place end run.1) run.0)
 
-    taken : (end : ℕ) (bytes : List ℕ) (x : A) (rest : List ℕ) → IsBytes bytes → within at len inner end bytes ≡ Ok (x, rest) → (P x × (length (s x) ≡ len) × IsBytes (s x)) × Takes bytes (s x) rest
+    taken : (end : ℕ) (bytes : List ℕ) (x : A) (rest : List ℕ) → IsBytes bytes → within at len inner end bytes ≡ Ok (x, rest) → (P x × (length (s x) ≡ len)) × Takes bytes (s x) rest
     taken end bytes x rest are e =
         let run = bind_ok (run_at len end bytes) (λ run. whole at run.1 (inner (place end run.1) run.0)) (x, rest) e in
         let t = (run_reads len).takes end bytes run.0.0 run.0.1 are run.1 in
         let w = whole_ok at run.0.1 (inner (place end run.0.1) run.0.0) x rest run.2 in
         let u = r.takes (place end run.0.1) run.0.0 x t.0.1 w.0 in
         let size : length (s x) ≡ len = ap length (sym u.1) ∙ t.0.0 in
-        ((u.0, size, subst IsBytes u.1 t.0.1), subst (λ (l : List ℕ). Takes bytes (s x) l) (sym w.1) (subst (λ (l : List ℕ). Takes bytes l run.0.1) u.1 t.1))
+        ((u.0, size), subst (λ (l : List ℕ). Takes bytes (s x) l) (sym w.1) (subst (λ (l : List ℕ). Takes bytes l run.0.1) u.1 t.1))
 
-    again_in : (end : ℕ) (x : A) (rest : List ℕ) → P x × (length (s x) ≡ len) × IsBytes (s x) → within at len inner end (s x ++ rest) ≡ Ok (x, rest)
+    again_in : (end : ℕ) (x : A) (rest : List ℕ) → P x × (length (s x) ≡ len) → within at len inner end (s x ++ rest) ≡ Ok (x, rest)
     again_in end x rest p =
-        ap (λ (found : Reading (List ℕ)). found >>= behind end) ((run_reads len).again end (s x) rest (p.1, p.2))
+        ap (λ (found : Reading (List ℕ)). found >>= behind end) (run_again len end (s x) rest p.1)
         ∙ ap (whole at rest) (r.again (place end rest) x p.0)
 
     stays_in : (end : ℕ) (bytes more : List ℕ) (f : Fault) → IsBytes bytes → is_cut f ≡ false → within at len inner end bytes ≡ Err f → within at len inner (end + length more) (bytes ++ more) ≡ Err f
@@ -238,3 +239,29 @@ within_reads {A = A} at len inner P s r = record { takes = taken; again = again_
             ap (λ (found : Reading (List ℕ)). found >>= behind (end + length more)) (reads_on (run_at len) (λ l. (length l ≡ len) × IsBytes l) (λ l. l) (run_reads len) end bytes more run.0 run.1 are is)
             ∙ ap (λ (at' : ℕ). whole at (run.1 ++ more) (inner at' run.0)) (place_on end run.1 more)
             ∙ more_whole (inner (place end run.1) run.0) run.1 (run.1 ++ more) is'
+
+-- ---- lists whose items have a shape of their own, and one beside those before them
+
+pub all_split : {A : Type 0} (P : A → Type 0) (R : List A → A → Type 0) (before xs : List A) → AllAfter (λ b x. P x × R b x) before xs → AllByRecursion P xs × AllAfter R before xs
+all_split P R before [] all = (tt, tt)
+all_split P R before (x ∷ xs) all = let q = all_split P R (before ++ x ∷ []) xs all.1 in ((all.0.0, q.0), (all.0.1, q.1))
+
+pub all_joined : {A : Type 0} (P : A → Type 0) (R : List A → A → Type 0) (before xs : List A) → AllByRecursion P xs → AllAfter R before xs → AllAfter (λ b x. P x × R b x) before xs
+all_joined P R before [] all beside = tt
+all_joined P R before (x ∷ xs) all beside = ((all.0, beside.0), all_joined P R (before ++ x ∷ []) xs all.1 beside.1)
+
+pub all_as : {A : Type 0} (P Q : A → Type 0) → ((x : A) → P x → Q x) → (xs : List A) → AllByRecursion P xs → AllByRecursion Q xs
+all_as P Q on [] all = tt
+all_as P Q on (x ∷ xs) all = (on x all.0, all_as P Q on xs all.1)
+
+map_end : {A B : Type 0} (f : A → B) (before : List A) (x : A) → map f (before ++ x ∷ []) ≡ map f before ++ f x ∷ []
+map_end f [] x = refl
+map_end {B = B} f (y ∷ before) x = ap (λ (l : List B). f y ∷ l) (map_end f before x)
+
+pub all_mapped : {A B : Type 0} (f : A → B) (R : List B → B → Type 0) (before xs : List A) → AllAfter (λ b x. R (map f b) (f x)) before xs → AllAfter R (map f before) (map f xs)
+all_mapped f R before [] all = tt
+all_mapped {B = B} f R before (x ∷ xs) all = (all.0, subst (λ (b : List B). AllAfter R b (map f xs)) (map_end f before x) (all_mapped f R (before ++ x ∷ []) xs all.1))
+
+pub all_unmapped : {A B : Type 0} (f : A → B) (R : List B → B → Type 0) (before xs : List A) → AllAfter R (map f before) (map f xs) → AllAfter (λ b x. R (map f b) (f x)) before xs
+all_unmapped f R before [] all = tt
+all_unmapped {B = B} f R before (x ∷ xs) all = (all.0, all_unmapped f R (before ++ x ∷ []) xs (subst (λ (b : List B). AllAfter R b (map f xs)) (sym (map_end f before x)) all.1))

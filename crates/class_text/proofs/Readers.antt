@@ -100,6 +100,16 @@ unless_reads false f read P s r = record {
   stays = λ end bytes more g are plain e. e;
 }
 
+-- the same of a condition that does not hold
+pub except_reads : {A : Type 0} (b : Bool) (f : Fault) (read : Reader A) (P : A → Type 0) (s : A → List ℕ)
+    → (b ≡ false → Reads read P s) → Reads (λ end bytes. cond b (Err f) (read end bytes)) (λ x. (b ≡ false) × P x) s
+except_reads false f read P s r = let h = r refl in as_reads read P s (λ x. (false ≡ false) × P x) s h (λ x p. (refl, p)) (λ x q. q.1) (λ x q. refl)
+except_reads true f read P s r = record {
+  takes = λ end bytes x rest are e. absurd cc;
+  again = λ end x rest q. absurd (let h : true ≡ false = q.0 in cc);
+  stays = λ end bytes more g are plain e. e;
+}
+
 -- one of two
 pub either_reads : {A : Type 0} (b : Bool) (one other : Reader A) (P : A → Type 0) (s : A → List ℕ)
     → (b ≡ true → Reads one P s) → (b ≡ false → Reads other P s) → Reads (λ end bytes. cond b (one end bytes) (other end bytes)) P s
@@ -145,3 +155,10 @@ layer_reads roll out out_roll roll_out read P s make back known Q t r on from sa
       (λ e p. let opened = ap out p.1 ∙ out_roll (make (back (out e))) in subst Q (sym opened) (on (back (out e)) p.0))
       (λ e q. let b = from (out e) q in (b.0, sym (roll_out e) ∙ ap roll b.1))
       (λ e q. let b = from (out e) q in same (back (out e)) b.0 ∙ ap t (sym b.1))
+
+-- ---- where the bytes are all there is
+
+pub either_reads_all : {A : Type 0} (b : Bool) (one other : Reader A) (P : A → Type 0) (s : A → List ℕ)
+    → (b ≡ true → ReadsAll one P s) → (b ≡ false → ReadsAll other P s) → ReadsAll (λ end bytes. cond b (one end bytes) (other end bytes)) P s
+either_reads_all true one other P s r q = r refl
+either_reads_all false one other P s r q = q refl

@@ -129,11 +129,12 @@ own_content_at pool (in_field descriptor) name at = constant_value_at pool descr
 own_content_at pool in_method name at = code_at pool name at
 own_content_at pool in_code name at = stack_map_at pool name
 
--- the content of an attribute of a class, a field or a method
+-- The content of an attribute of a class, a field or a method. A known name that isn't the place's own is that of
+-- annotations.
 unfoldable pub content_at : Pool → Place → ℕ → ℕ → Reader Attribute
 content_at pool stand name at end bytes =
     if bytes_eq (own_name stand) (text_of pool name) then own_content_at pool stand name at end bytes
-    else if bytes_eq (codes "RuntimeVisibleAnnotations") (text_of pool name) then annotations_at pool name at end bytes
+    else if is_known stand (text_of pool name) then annotations_at pool name at end bytes
     else other_at name end bytes
 
 unfoldable pub attribute_at : Pool → Place → Bool → List Attribute → Reader Attribute
