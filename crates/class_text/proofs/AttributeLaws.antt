@@ -32,7 +32,7 @@ use Rattle.class_text.proofs.Numbered.{IsFew, some_that, numbered, numbered_text
 use Rattle.class_text.proofs.FrameLaws.{frame_reads}
 use Rattle.class_text.proofs.ElementLaws.{text_reads, annotation_reads}
 
-four : (a b c d : List ℕ) → a ++ (b ++ (c ++ d)) ≡ ((a ++ b) ++ c) ++ d
+pub four : (a b c d : List ℕ) → a ++ (b ++ (c ++ d)) ≡ ((a ++ b) ++ c) ++ d
 four a b c d = sym (append_assoc (a ++ b) c d ∙ append_assoc a b (c ++ d))
 
 -- ---- handlers and bootstrap methods
@@ -110,7 +110,7 @@ text_is pool name test named = go (text_at pool name) named
     go (Some text) e = refl
 
 -- a name that is another is no name of a text
-another : {P : Type 0} (a b text : List ℕ) → bytes_eq a text ≡ true → bytes_eq b text ≡ true → bytes_eq a b ≡ false → P
+pub another : {P : Type 0} (a b text : List ℕ) → bytes_eq a text ≡ true → bytes_eq b text ≡ true → bytes_eq a b ≡ false → P
 another a b text e f n =
     let one = (bytes_eq-Decides a text).0 e in
     let two = (bytes_eq-Decides b text).0 f in
@@ -124,7 +124,7 @@ module _ (pool : Pool) (few : IsFew pool) (name : ℕ) (named : is_text pool nam
   unfolding is_named
   is_named_by a = text_is pool name (bytes_eq a) named
 
-  not_known : (stand : Place) → is_some_that (λ t. not (is_known stand t)) (text_at pool name) ≡ not (is_known stand text)
+  pub not_known : (stand : Place) → is_some_that (λ t. not (is_known stand t)) (text_at pool name) ≡ not (is_known stand text)
   not_known stand = text_is pool name (λ t. not (is_known stand t)) named
 
   pub own_known : (stand : Place) → bytes_eq (own_name stand) text ≡ true → is_known stand text ≡ true

@@ -28,7 +28,7 @@ named_text : (pool : Pool) (test : List ℕ → Bool) (n : ℕ) → is_some_that
 unfolding is_text
 named_text pool test n e = some_that test (text_at pool n) e
 
-form_named : (Inner : List Attribute → Type 0) (pool : Pool) (stand : Place) (l : AttributeLayer) → HasForm Inner pool stand l → is_text pool (spelling.name_of l) ≡ true
+pub form_named : (Inner : List Attribute → Type 0) (pool : Pool) (stand : Place) (l : AttributeLayer) → HasForm Inner pool stand l → is_text pool (spelling.name_of l) ≡ true
 unfolding is_named
 form_named Inner pool in_method (Attribute-F.Code n a b c d e) is = named_text pool (bytes_eq (codes "Code")) n is.0
 form_named Inner pool in_code (Attribute-F.StackMap n frames) is = named_text pool (bytes_eq (codes "StackMapTable")) n is.0

@@ -12,3 +12,4 @@ pub mod ElementLaws
 pub mod AttributeLaws
 pub mod FramedLaws
 pub mod CodeLaws
+pub mod MemberLaws
