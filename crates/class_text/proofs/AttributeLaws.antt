@@ -1,12 +1,9 @@
 -- What holds of the readers of attributes.
-use Rattle.std.proofs.Common.{◌≡◌, ℕ, zero, suc, eqb, ltb, leb, ◌+◌, ◌-◌, ◌^◌, ◌<◌, ◌≤◌, Bool, true, false, cond, not, ◌&&◌, ◌||◌, List, [], ◌∷◌, ◌++◌, length, map, flat_map, codes, bytes_eq, unwrap_or, get_or, is_some, Option, Some, None, Ok, Err, IsTrue, refl, sym, ap, subst, ◌∙◌, append_assoc, append-nil, arith, inl, inr}
-use Rattle.std.specs.List.{list_any, AllByRecursion}
-use Rattle.std.specs.Int.{w16, w32, to_be_bytes}
-use Rattle.std.proofs.lemmas.Bool.{cases_Bool, eqb-true, ltb-true, ltb-false, le-ltb, and_parts, and_from, or_left, or_right}
-use Rattle.std.proofs.lemmas.Bool.Decides.{nat_tests}
+use Rattle.std.proofs.Common.{◌≡◌, ℕ, suc, eqb, ◌^◌, ◌<◌, Bool, true, false, not, ◌||◌, List, [], ◌∷◌, ◌++◌, codes, bytes_eq, unwrap_or, is_some, Option, Some, None, Ok, refl, sym, ap, subst, ◌∙◌, append_assoc, arith, inl, inr}
+use Rattle.std.specs.Int.{w16, to_be_bytes}
+use Rattle.std.proofs.lemmas.Bool.{cases_Bool, eqb-true, or_left, or_right}
 use Rattle.std.proofs.lemmas.Cmp.{nat_list_eq_equiv}
 use Rattle.std.proofs.lemmas.Slice.Eq.{bytes_eq-Decides}
-use Rattle.class_model.specs.declared.constant_pool.Constant.{Constant}
 use Rattle.class_model.specs.declared.constant_pool.Pool.{Pool}
 use Rattle.class_model.specs.declared.annotation.Note.{Note}
 use Rattle.class_model.specs.declared.stack_map.StackFrame.{StackFrame}
@@ -20,17 +17,17 @@ use Rattle.class_model.specs.Annotations.{IsCounted, IsAnnotation}
 use Rattle.class_model.specs.Attributes.{Place, in_class, in_field, in_method, in_code, is_known, is_named, is_value_for, is_loadable, is_handle, attribute_name, once_each, IsHandler, IsBootstrap, IsFrame, IsOther, IsCode, HasForm, IsAttributesBy, IsCodeAttribute, IsCodeAttributes, IsAttribute, IsAttributes}
 use Rattle.class_model.specs.Attributes as model
 use Rattle.class_model.specs.Spelling as spelling
-use Rattle.class_text.specs.Reading.{Fault, bad_attribute, second_attribute, IsBytes}
-use Rattle.class_text.specs.Readers.{Reader, u2_at, u4_at, index_at, many_after, counted_at, counted_after, run_at, within}
+use Rattle.class_text.specs.Reading.{IsBytes}
+use Rattle.class_text.specs.Readers.{u2_at, index_at, counted_at}
 use Rattle.class_text.specs.Frames.{is_class, frame_at}
 use Rattle.class_text.specs.Elements.{is_text, note_at}
-use Rattle.class_text.specs.Attributes.{text_of, is_first, is_caught, handler_at, leads_to_handle, leads_to_loadable, bootstrap_at, other_at, stack_map_at, leads_to_value, constant_value_at, bootstraps_at, annotations_at, code_content_at, attribute_by, code_attribute_at, code_attributes_at, code_bytes_at, code_at, own_name, own_content_at, content_at, attribute_at, attributes_at}
+use Rattle.class_text.specs.Attributes.{text_of, is_caught, handler_at, leads_to_handle, leads_to_loadable, bootstrap_at, other_at, stack_map_at, leads_to_value, constant_value_at, bootstraps_at, annotations_at, code_content_at, own_name}
 use Rattle.class_text.proofs.Numbers.{ok_is}
-use Rattle.class_text.proofs.Readers.{Reads, ReadsAll, all_reads, as_reads, as_reads_all, give_reads, no_reads, made_reads, layer_reads, bind, bind_reads, unless_reads, either_reads, either_reads_all, here_reads}
-use Rattle.class_text.proofs.Parts.{u2_reads, u4_reads, index_reads, each_counted, counted_reads, run_reads, within_reads, AllAfter}
-use Rattle.class_text.proofs.Numbered.{IsFew, some_that, numbered, numbered_text}
+use Rattle.class_text.proofs.Readers.{Reads, ReadsAll, all_reads, as_reads, made_reads, layer_reads, bind, bind_reads, either_reads_all}
+use Rattle.class_text.proofs.Parts.{u2_reads, index_reads, each_counted}
+use Rattle.class_text.proofs.Numbered.{IsFew, some_that, numbered}
 use Rattle.class_text.proofs.FrameLaws.{frame_reads}
-use Rattle.class_text.proofs.ElementLaws.{text_reads, annotation_reads}
+use Rattle.class_text.proofs.ElementLaws.{annotation_reads}
 
 pub four : (a b c d : List ℕ) → a ++ (b ++ (c ++ d)) ≡ ((a ++ b) ++ c) ++ d
 four a b c d = sym (append_assoc (a ++ b) c d ∙ append_assoc a b (c ++ d))
@@ -54,22 +51,22 @@ pub handler_reads : (pool : Pool) → IsFew pool → Reads (handler_at pool) (Is
 unfolding handler_at is_caught is_class spelling.handler
 handler_reads pool few =
     as_reads (handler_at pool) _ _ (IsHandler pool) spelling.handler
-      (bind_reads u2_at (λ n. n < 2 ^ 16) (to_be_bytes w16) (λ start. bind u2_at (λ end. bind u2_at (λ handler. bind (index_at (is_caught pool)) (λ caught end' bytes. Ok (handler_of start end handler caught, bytes)))))
-        (λ start h. (h.end < 2 ^ 16) × ((h.handler < 2 ^ 16) × ((is_caught pool h.catch_type ≡ true) × (h ≡ handler_of start h.end h.handler h.catch_type))))
-        (λ start h. to_be_bytes w16 h.end ++ (to_be_bytes w16 h.handler ++ to_be_bytes w16 h.catch_type)) (λ h. h.start) u2_reads
-        (λ start a. bind_reads u2_at (λ n. n < 2 ^ 16) (to_be_bytes w16) (λ end. bind u2_at (λ handler. bind (index_at (is_caught pool)) (λ caught end' bytes. Ok (handler_of start end handler caught, bytes))))
-          (λ end h. (h.handler < 2 ^ 16) × ((is_caught pool h.catch_type ≡ true) × (h ≡ handler_of start end h.handler h.catch_type)))
-          (λ end h. to_be_bytes w16 h.handler ++ to_be_bytes w16 h.catch_type) (λ h. h.end) u2_reads
-          (λ end b. bind_reads u2_at (λ n. n < 2 ^ 16) (to_be_bytes w16) (λ handler. bind (index_at (is_caught pool)) (λ caught end' bytes. Ok (handler_of start end handler caught, bytes)))
-            (λ handler h. (is_caught pool h.catch_type ≡ true) × (h ≡ handler_of start end handler h.catch_type))
-            (λ handler h. to_be_bytes w16 h.catch_type) (λ h. h.handler) u2_reads
-            (λ handler c. made_reads (index_at (is_caught pool)) (λ n. is_caught pool n ≡ true) (to_be_bytes w16) (handler_of start end handler) (λ h. h.catch_type) (λ n. refl) (caught_reads pool few))
-            (λ handler h q. ap (λ (x : Handler). x.handler) q.1))
-          (λ end h q. ap (λ (x : Handler). x.end) q.1.1))
-        (λ start h q. ap (λ (x : Handler). x.start) q.1.1.1))
-      (λ h p. record { start = p.0; ends = p.1.0; handler = p.1.1.0; catch_type = p.1.1.1.0 })
-      (λ h q. (q.start, (q.ends, (q.handler, (q.catch_type, refl)))))
-      (λ h q. four (to_be_bytes w16 h.start) (to_be_bytes w16 h.end) (to_be_bytes w16 h.handler) (to_be_bytes w16 h.catch_type))
+    (bind_reads u2_at (λ n. n < 2 ^ 16) (to_be_bytes w16) (λ start. bind u2_at (λ end. bind u2_at (λ handler. bind (index_at (is_caught pool)) (λ caught end' bytes. Ok (handler_of start end handler caught, bytes)))))
+    (λ start h. (h.end < 2 ^ 16) × ((h.handler < 2 ^ 16) × ((is_caught pool h.catch_type ≡ true) × (h ≡ handler_of start h.end h.handler h.catch_type))))
+    (λ start h. to_be_bytes w16 h.end ++ (to_be_bytes w16 h.handler ++ to_be_bytes w16 h.catch_type)) (λ h. h.start) u2_reads
+    (λ start a. bind_reads u2_at (λ n. n < 2 ^ 16) (to_be_bytes w16) (λ end. bind u2_at (λ handler. bind (index_at (is_caught pool)) (λ caught end' bytes. Ok (handler_of start end handler caught, bytes))))
+    (λ end h. (h.handler < 2 ^ 16) × ((is_caught pool h.catch_type ≡ true) × (h ≡ handler_of start end h.handler h.catch_type)))
+    (λ end h. to_be_bytes w16 h.handler ++ to_be_bytes w16 h.catch_type) (λ h. h.end) u2_reads
+    (λ end b. bind_reads u2_at (λ n. n < 2 ^ 16) (to_be_bytes w16) (λ handler. bind (index_at (is_caught pool)) (λ caught end' bytes. Ok (handler_of start end handler caught, bytes)))
+    (λ handler h. (is_caught pool h.catch_type ≡ true) × (h ≡ handler_of start end handler h.catch_type))
+    (λ handler h. to_be_bytes w16 h.catch_type) (λ h. h.handler) u2_reads
+    (λ handler c. made_reads (index_at (is_caught pool)) (λ n. is_caught pool n ≡ true) (to_be_bytes w16) (handler_of start end handler) (λ h. h.catch_type) (λ n. refl) (caught_reads pool few))
+    (λ handler h q. ap (λ (x : Handler). x.handler) q.1))
+    (λ end h q. ap (λ (x : Handler). x.end) q.1.1))
+    (λ start h q. ap (λ (x : Handler). x.start) q.1.1.1))
+    (λ h p. record { start = p.0; ends = p.1.0; handler = p.1.1.0; catch_type = p.1.1.1.0 })
+    (λ h q. (q.start, (q.ends, (q.handler, (q.catch_type, refl)))))
+    (λ h q. four (to_be_bytes w16 h.start) (to_be_bytes w16 h.end) (to_be_bytes w16 h.handler) (to_be_bytes w16 h.catch_type))
 
 handle_reads : (pool : Pool) → IsFew pool → Reads (index_at (leads_to_handle pool)) (λ n. leads_to_handle pool n ≡ true) (to_be_bytes w16)
 unfolding leads_to_handle
@@ -86,12 +83,12 @@ bootstrap_reads : (pool : Pool) → IsFew pool → Reads (bootstrap_at pool) (Is
 unfolding bootstrap_at leads_to_handle leads_to_loadable spelling.bootstrap
 bootstrap_reads pool few =
     as_reads (bootstrap_at pool) _ _ (IsBootstrap pool) spelling.bootstrap
-      (bind_reads (index_at (leads_to_handle pool)) (λ n. leads_to_handle pool n ≡ true) (to_be_bytes w16) (λ handle. bind (counted_at (index_at (leads_to_loadable pool))) (λ arguments end bytes. Ok (bootstrap_of handle arguments, bytes)))
-        (λ handle b. IsCounted (λ n. leads_to_loadable pool n ≡ true) b.arguments × (b ≡ bootstrap_of handle b.arguments)) (λ handle b. spelling.counted (to_be_bytes w16) b.arguments) (λ b. b.handle) (handle_reads pool few)
-        (λ handle a. made_reads (counted_at (index_at (leads_to_loadable pool))) (IsCounted (λ n. leads_to_loadable pool n ≡ true)) (spelling.counted (to_be_bytes w16)) (bootstrap_of handle) (λ b. b.arguments) (λ n. refl)
-          (each_counted (index_at (leads_to_loadable pool)) (λ n. leads_to_loadable pool n ≡ true) (to_be_bytes w16) (loadable_reads pool few)))
-        (λ handle b q. ap (λ (x : Bootstrap). x.handle) q.1))
-      (λ b p. record { handle = p.0; arguments = p.1.0 }) (λ b q. (q.handle, (q.arguments, refl))) (λ b q. refl)
+    (bind_reads (index_at (leads_to_handle pool)) (λ n. leads_to_handle pool n ≡ true) (to_be_bytes w16) (λ handle. bind (counted_at (index_at (leads_to_loadable pool))) (λ arguments end bytes. Ok (bootstrap_of handle arguments, bytes)))
+    (λ handle b. IsCounted (λ n. leads_to_loadable pool n ≡ true) b.arguments × (b ≡ bootstrap_of handle b.arguments)) (λ handle b. spelling.counted (to_be_bytes w16) b.arguments) (λ b. b.handle) (handle_reads pool few)
+    (λ handle a. made_reads (counted_at (index_at (leads_to_loadable pool))) (IsCounted (λ n. leads_to_loadable pool n ≡ true)) (spelling.counted (to_be_bytes w16)) (bootstrap_of handle) (λ b. b.arguments) (λ n. refl)
+    (each_counted (index_at (leads_to_loadable pool)) (λ n. leads_to_loadable pool n ≡ true) (to_be_bytes w16) (loadable_reads pool few)))
+    (λ handle b q. ap (λ (x : Bootstrap). x.handle) q.1))
+    (λ b p. record { handle = p.0; arguments = p.1.0 }) (λ b q. (q.handle, (q.arguments, refl))) (λ b q. refl)
 
 -- ---- bytes
 
@@ -196,9 +193,9 @@ module _ (pool : Pool) (few : IsFew pool) (name : ℕ) (named : is_text pool nam
   unfolding stack_map_at spelling.content_by frames_of
   stack_maps Inner inner e =
       all_reads (stack_map_at pool name) _ _
-        (layer_reads roll-Attribute out-Attribute out-roll-Attribute roll-out-Attribute (counted_at (frame_at pool)) (IsCounted (IsFrame pool)) (spelling.counted spelling.frame) (Attribute-F.StackMap name) frames_of (λ x. refl) (Q Inner in_code) (spelling.content_by inner)
-          (each_counted (frame_at pool) (IsFrame pool) spelling.frame (frame_reads pool few))
-          (λ frames p. (refl, (is_named_by (codes "StackMapTable") ∙ e, p))) from (λ frames p. refl))
+      (layer_reads roll-Attribute out-Attribute out-roll-Attribute roll-out-Attribute (counted_at (frame_at pool)) (IsCounted (IsFrame pool)) (spelling.counted spelling.frame) (Attribute-F.StackMap name) frames_of (λ x. refl) (Q Inner in_code) (spelling.content_by inner)
+      (each_counted (frame_at pool) (IsFrame pool) spelling.frame (frame_reads pool few))
+      (λ frames p. (refl, (is_named_by (codes "StackMapTable") ∙ e, p))) from (λ frames p. refl))
     where
       from : (l : AttributeLayer) → Q Inner in_code l → IsCounted (IsFrame pool) (frames_of l) × (l ≡ Attribute-F.StackMap name (frames_of l))
       from (Attribute-F.StackMap n frames) q = (q.1.1, ap (λ (m : ℕ). Attribute-F.StackMap m frames) q.0)
@@ -210,9 +207,9 @@ module _ (pool : Pool) (few : IsFew pool) (name : ℕ) (named : is_text pool nam
   unfolding bootstraps_at spelling.content_by entries_of
   bootstraps Inner inner e =
       all_reads (bootstraps_at pool name) _ _
-        (layer_reads roll-Attribute out-Attribute out-roll-Attribute roll-out-Attribute (counted_at (bootstrap_at pool)) (IsCounted (IsBootstrap pool)) (spelling.counted spelling.bootstrap) (Attribute-F.Bootstrap name) entries_of (λ x. refl) (Q Inner in_class) (spelling.content_by inner)
-          (each_counted (bootstrap_at pool) (IsBootstrap pool) spelling.bootstrap (bootstrap_reads pool few))
-          (λ entries p. (refl, (is_named_by (codes "BootstrapMethods") ∙ e, p))) from (λ entries p. refl))
+      (layer_reads roll-Attribute out-Attribute out-roll-Attribute roll-out-Attribute (counted_at (bootstrap_at pool)) (IsCounted (IsBootstrap pool)) (spelling.counted spelling.bootstrap) (Attribute-F.Bootstrap name) entries_of (λ x. refl) (Q Inner in_class) (spelling.content_by inner)
+      (each_counted (bootstrap_at pool) (IsBootstrap pool) spelling.bootstrap (bootstrap_reads pool few))
+      (λ entries p. (refl, (is_named_by (codes "BootstrapMethods") ∙ e, p))) from (λ entries p. refl))
     where
       from : (l : AttributeLayer) → Q Inner in_class l → IsCounted (IsBootstrap pool) (entries_of l) × (l ≡ Attribute-F.Bootstrap name (entries_of l))
       from (Attribute-F.Bootstrap n entries) q = (q.1.1, ap (λ (m : ℕ). Attribute-F.Bootstrap m entries) q.0)
@@ -229,8 +226,8 @@ module _ (pool : Pool) (few : IsFew pool) (name : ℕ) (named : is_text pool nam
   unfolding constant_value_at spelling.content_by value_of leads_to_value
   constant_values Inner inner d e =
       all_reads (constant_value_at pool d name) _ _
-        (layer_reads roll-Attribute out-Attribute out-roll-Attribute roll-out-Attribute (index_at (leads_to_value pool d)) (λ n. leads_to_value pool d n ≡ true) (to_be_bytes w16) (Attribute-F.ConstantValue name) value_of (λ x. refl) (Q Inner (in_field d)) (spelling.content_by inner)
-          (values_read d) (λ n p. (refl, (is_named_by (codes "ConstantValue") ∙ e, p))) from (λ n p. refl))
+      (layer_reads roll-Attribute out-Attribute out-roll-Attribute roll-out-Attribute (index_at (leads_to_value pool d)) (λ n. leads_to_value pool d n ≡ true) (to_be_bytes w16) (Attribute-F.ConstantValue name) value_of (λ x. refl) (Q Inner (in_field d)) (spelling.content_by inner)
+      (values_read d) (λ n p. (refl, (is_named_by (codes "ConstantValue") ∙ e, p))) from (λ n p. refl))
     where
       from : (l : AttributeLayer) → Q Inner (in_field d) l → (leads_to_value pool d (value_of l) ≡ true) × (l ≡ Attribute-F.ConstantValue name (value_of l))
       from (Attribute-F.ConstantValue n value) q = (q.1.1, ap (λ (m : ℕ). Attribute-F.ConstantValue m value) q.0)
@@ -288,9 +285,9 @@ module _ (pool : Pool) (few : IsFew pool) (name : ℕ) (named : is_text pool nam
   unfolding annotations_at spelling.content_by list_of is_known
   annotated Inner inner stand at o k =
       all_reads (annotations_at pool name at) _ _
-        (layer_reads roll-Attribute out-Attribute out-roll-Attribute roll-out-Attribute (counted_at (note_at at pool)) (IsCounted (IsAnnotation pool)) (spelling.counted (spelling.note_by (spelling.element spelling.greatest_depth))) (Attribute-F.Annotations name) list_of (λ x. refl) (Q Inner stand) (spelling.content_by inner)
-          (each_counted (note_at at pool) (IsAnnotation pool) (spelling.note_by (spelling.element spelling.greatest_depth)) (annotation_reads at pool few))
-          (λ list p. (refl, form stand list o k p)) (λ l q. from stand l q o k) (λ list p. refl))
+      (layer_reads roll-Attribute out-Attribute out-roll-Attribute roll-out-Attribute (counted_at (note_at at pool)) (IsCounted (IsAnnotation pool)) (spelling.counted (spelling.note_by (spelling.element spelling.greatest_depth))) (Attribute-F.Annotations name) list_of (λ x. refl) (Q Inner stand) (spelling.content_by inner)
+      (each_counted (note_at at pool) (IsAnnotation pool) (spelling.note_by (spelling.element spelling.greatest_depth)) (annotation_reads at pool few))
+      (λ list p. (refl, form stand list o k p)) (λ l q. from stand l q o k) (λ list p. refl))
     where
       form : (s : Place) (list : List Note) → bytes_eq (own_name s) text ≡ false → is_known s text ≡ true → IsCounted (IsAnnotation pool) list → HasForm Inner pool s (Attribute-F.Annotations name list)
       form in_class list o k p = (is_named_by (codes "RuntimeVisibleAnnotations") ∙ left_known (codes "BootstrapMethods") (codes "RuntimeVisibleAnnotations") k o, p)
@@ -322,8 +319,8 @@ module _ (pool : Pool) (few : IsFew pool) (name : ℕ) (named : is_text pool nam
   unfolding code_content_at is_known
   code_contents at =
       either_reads_all (bytes_eq (codes "StackMapTable") text) (stack_map_at pool name) (other_at name) _ _
-        (stack_maps (λ inner. ⊥) spelling.no_attribute)
-        (λ o. others (λ inner. ⊥) spelling.no_attribute in_code (not_so (is_known in_code text) (λ k. none_left (codes "StackMapTable") k o)))
+      (stack_maps (λ inner. ⊥) spelling.no_attribute)
+      (λ o. others (λ inner. ⊥) spelling.no_attribute in_code (not_so (is_known in_code text) (λ k. none_left (codes "StackMapTable") k o)))
     where
       not_so : (b : Bool) → (b ≡ true → ⊥) → b ≡ false
       not_so true n = absurd (n refl)

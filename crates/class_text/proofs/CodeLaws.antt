@@ -1,8 +1,8 @@
 -- What holds of the readers of code, and of the attributes of classes, fields and methods.
-use Rattle.std.proofs.Common.{◌≡◌, ℕ, zero, suc, ltb, leb, ◌^◌, ◌<◌, ◌≤◌, Bool, true, false, cond, not, ◌&&◌, ◌||◌, List, [], ◌∷◌, ◌++◌, length, get_or, codes, bytes_eq, Option, Some, None, is_some, Ok, Err, IsTrue, refl, sym, ap, subst, ◌∙◌, append_assoc, arith, inl, inr}
-use Rattle.std.specs.List.{list_any, AllByRecursion}
+use Rattle.std.proofs.Common.{◌≡◌, ℕ, zero, suc, ltb, leb, ◌^◌, ◌<◌, ◌≤◌, Bool, true, false, cond, not, ◌&&◌, List, [], ◌∷◌, ◌++◌, length, codes, bytes_eq, Ok, Err, refl, sym, ap, subst, ◌∙◌, append_assoc, arith}
+use Rattle.std.specs.List.{AllByRecursion}
 use Rattle.std.specs.Int.{w16, w32, to_be_bytes}
-use Rattle.std.proofs.lemmas.Bool.{cases_Bool, and_parts, and_from, ltb-true, lt-ltb, leb-true, le-leb}
+use Rattle.std.proofs.lemmas.Bool.{and_parts, and_from, ltb-true, lt-ltb, leb-true, le-leb}
 use Rattle.class_model.specs.declared.constant_pool.Pool.{Pool}
 use Rattle.class_model.specs.declared.attribute_forms.Attribute.{Attribute, out-Attribute, roll-Attribute, out-roll-Attribute, roll-out-Attribute}
 use Rattle.class_model.specs.declared.attribute_forms.Attribute.TheOpen.{Attribute-F}
@@ -17,8 +17,8 @@ use Rattle.class_text.specs.Reading.{bad_attribute, IsBytes}
 use Rattle.class_text.specs.Readers.{Reader, u2_at, u4_at, counted_at, run_at}
 use Rattle.class_text.specs.Elements.{is_text}
 use Rattle.class_text.specs.Attributes.{text_of, handler_at, code_content_at, code_attribute_at, code_attributes_at, code_bytes_at, code_at, own_name, own_content_at, content_at, annotations_at, other_at, attribute_at, attributes_at}
-use Rattle.class_text.proofs.Readers.{Reads, ReadsAll, all_reads, as_reads, as_reads_all, made_reads, bind, bind_reads, unless_reads, either_reads_all}
-use Rattle.class_text.proofs.Parts.{u2_reads, u4_reads, run_reads, each_counted, all_as}
+use Rattle.class_text.proofs.Readers.{Reads, ReadsAll, all_reads, as_reads, made_reads, bind, bind_reads, unless_reads, either_reads_all}
+use Rattle.class_text.proofs.Parts.{u2_reads, u4_reads, run_reads, each_counted}
 use Rattle.class_text.proofs.Numbered.{IsFew, some_that}
 use Rattle.class_text.proofs.AttributeLaws.{handler_reads, code_contents, stack_maps, bootstraps, constant_values, annotated, others, own_known, is_named_by, is_no_other, is_no_named, bytes_all}
 use Rattle.class_text.proofs.FramedLaws.{is_code_barred, attributes_read}
@@ -53,10 +53,10 @@ pub code_attributes_read : (pool : Pool) → IsFew pool → Reads (code_attribut
 unfolding code_attributes_at code_attribute_at spelling.code_attribute
 code_attributes_read pool few =
     as_reads (code_attributes_at pool) _ _ (IsCodeAttributes pool) (spelling.counted spelling.code_attribute)
-      (attributes_read pool few in_code false (code_content_at pool) (λ a. HasForm (λ inner. ⊥) pool in_code (out-Attribute a)) (λ a. spelling.content_by spelling.no_attribute (out-Attribute a))
-        (λ name at named. code_contents pool few name named at) (λ a is. form_named (λ inner. ⊥) pool in_code (out-Attribute a) is)
-        (IsCodeAttribute pool) (λ a p. record { form = p.0; short = p.1 }) (λ a q. (q.form, q.short)) spelling.code_attribute (λ a. refl))
-      (λ xs p. p.0) (λ xs p. (p, never_barred pool xs)) (λ xs p. refl)
+    (attributes_read pool few in_code false (code_content_at pool) (λ a. HasForm (λ inner. ⊥) pool in_code (out-Attribute a)) (λ a. spelling.content_by spelling.no_attribute (out-Attribute a))
+    (λ name at named. code_contents pool few name named at) (λ a is. form_named (λ inner. ⊥) pool in_code (out-Attribute a) is)
+    (IsCodeAttribute pool) (λ a p. record { form = p.0; short = p.1 }) (λ a q. (q.form, q.short)) spelling.code_attribute (λ a. refl))
+    (λ xs p. p.0) (λ xs p. (p, never_barred pool xs)) (λ xs p. refl)
 
 -- ---- code
 
@@ -74,14 +74,14 @@ code_bytes_read : (pool : Pool) → IsFew pool → (at : ℕ) → Reads (code_by
 unfolding code_bytes_at
 code_bytes_read pool few at =
     as_reads (code_bytes_at at) _ _ IsCodeBytes (λ code. to_be_bytes w32 (length code) ++ code)
-      (bind_reads u4_at (λ n. n < 2 ^ 32) (to_be_bytes w32) (λ len end bytes. cond (ltb 0 len && leb len 65535) (run_at len end bytes) (Err (bad_attribute at)))
-        (λ len code. ((ltb 0 len && leb len 65535) ≡ true) × ((length code ≡ len) × IsBytes code)) (λ len code. code) length u4_reads
-        (λ len low. unless_reads (ltb 0 len && leb len 65535) (bad_attribute at) (run_at len) (λ code. (length code ≡ len) × IsBytes code) (λ code. code) (λ y. run_reads len))
-        (λ len code q. q.1.0))
-      (λ code p. let parts = and_parts (ltb 0 (length code)) (leb (length code) 65535) p.1.0 in
-        record { some = ltb-true 0 (length code) parts.0; short = leb-true (length code) 65535 parts.1; bytes = bytes_all code p.1.1.1 })
-      (λ code q. let short = q.short in (omega (arith, short), (and_from (ltb 0 (length code)) (leb (length code) 65535) (lt-ltb 0 (length code) q.some) (le-leb (length code) 65535 q.short), (refl, bytes_each code q.bytes))))
-      (λ code q. refl)
+    (bind_reads u4_at (λ n. n < 2 ^ 32) (to_be_bytes w32) (λ len end bytes. cond (ltb 0 len && leb len 65535) (run_at len end bytes) (Err (bad_attribute at)))
+    (λ len code. ((ltb 0 len && leb len 65535) ≡ true) × ((length code ≡ len) × IsBytes code)) (λ len code. code) length u4_reads
+    (λ len low. unless_reads (ltb 0 len && leb len 65535) (bad_attribute at) (run_at len) (λ code. (length code ≡ len) × IsBytes code) (λ code. code) (λ y. run_reads len))
+    (λ len code q. q.1.0))
+    (λ code p. let parts = and_parts (ltb 0 (length code)) (leb (length code) 65535) p.1.0 in
+    record { some = ltb-true 0 (length code) parts.0; short = leb-true (length code) 65535 parts.1; bytes = bytes_all code p.1.1.1 })
+    (λ code q. let short = q.short in (omega (arith, short), (and_from (ltb 0 (length code)) (leb (length code) 65535) (lt-ltb 0 (length code) q.some) (le-leb (length code) 65535 q.short), (refl, bytes_each code q.bytes))))
+    (λ code q. refl)
 
 -- the parts of code, where it is code
 stack_of : AttributeLayer → ℕ
@@ -167,33 +167,33 @@ module _ (pool : Pool) (few : IsFew pool) (name : ℕ) (named : is_text pool nam
   unfolding inner_of
   read4 stack locals code table =
       made_reads (code_attributes_at pool) (IsCodeAttributes pool) (spelling.counted spelling.code_attribute) (coded stack locals code table) (λ a. inner_of (layer a))
-        (λ inner. ap inner_of (out-roll-Attribute (Attribute-F.Code name stack locals code table inner))) (code_attributes_read pool few)
+      (λ inner. ap inner_of (out-roll-Attribute (Attribute-F.Code name stack locals code table inner))) (code_attributes_read pool few)
 
   read3 : (stack locals : ℕ) (code : List ℕ) → Reads (r3 stack locals code) (P3 stack locals code) s3
   unfolding table_of
   read3 stack locals code =
       bind_reads (counted_at (handler_at pool)) (IsCounted (IsHandler pool)) (spelling.counted spelling.handler) (r4 stack locals code) (P4 stack locals code) (λ table. s4) (λ a. table_of (layer a))
-        (each_counted (handler_at pool) (IsHandler pool) spelling.handler (handler_reads pool few)) (λ table p. read4 stack locals code table)
-        (λ table a q. ap table_of (opened a stack locals code table (inner_of (layer a)) q.1))
+      (each_counted (handler_at pool) (IsHandler pool) spelling.handler (handler_reads pool few)) (λ table p. read4 stack locals code table)
+      (λ table a q. ap table_of (opened a stack locals code table (inner_of (layer a)) q.1))
 
   read2 : (stack locals : ℕ) → Reads (r2 stack locals) (P2 stack locals) s2
   unfolding code_of
   read2 stack locals =
       bind_reads (code_bytes_at at) IsCodeBytes (λ code. to_be_bytes w32 (length code) ++ code) (r3 stack locals) (P3 stack locals) (λ code. s3) (λ a. code_of (layer a))
-        (code_bytes_read pool few at) (λ code p. read3 stack locals code)
-        (λ code a q. ap code_of (opened a stack locals code (table_of (layer a)) (inner_of (layer a)) q.1.1))
+      (code_bytes_read pool few at) (λ code p. read3 stack locals code)
+      (λ code a q. ap code_of (opened a stack locals code (table_of (layer a)) (inner_of (layer a)) q.1.1))
 
   read1 : (stack : ℕ) → Reads (r1 stack) (P1 stack) s1
   unfolding locals_of
   read1 stack =
       bind_reads u2_at (λ n. n < 2 ^ 16) (to_be_bytes w16) (r2 stack) (P2 stack) (λ locals. s2) (λ a. locals_of (layer a)) u2_reads (λ locals p. read2 stack locals)
-        (λ locals a q. ap locals_of (opened a stack locals (code_of (layer a)) (table_of (layer a)) (inner_of (layer a)) q.1.1.1))
+      (λ locals a q. ap locals_of (opened a stack locals (code_of (layer a)) (table_of (layer a)) (inner_of (layer a)) q.1.1.1))
 
   read0 : Reads (bind u2_at r1) P0 s0
   unfolding stack_of
   read0 =
       bind_reads u2_at (λ n. n < 2 ^ 16) (to_be_bytes w16) r1 P1 (λ stack. s1) (λ a. stack_of (layer a)) u2_reads (λ stack p. read1 stack)
-        (λ stack a q. ap stack_of (opened a stack (locals_of (layer a)) (code_of (layer a)) (table_of (layer a)) (inner_of (layer a)) q.1.1.1.1))
+      (λ stack a q. ap stack_of (opened a stack (locals_of (layer a)) (code_of (layer a)) (table_of (layer a)) (inner_of (layer a)) q.1.1.1.1))
 
   abbrev IsCodeLayer : AttributeLayer → Type 0
   IsCodeLayer l = (spelling.name_of l ≡ name) × HasForm (IsCodeAttributes pool) pool in_method l
@@ -239,7 +239,7 @@ module _ (pool : Pool) (few : IsFew pool) (name : ℕ) (named : is_text pool nam
   unfolding code_at
   code_reads e =
       all_reads (code_at pool name at) (λ a. IsCodeLayer (layer a)) (λ a. spelling.content_by spelling.code_attribute (layer a))
-        (as_reads (code_at pool name at) P0 s0 (λ a. IsCodeLayer (layer a)) (λ a. spelling.content_by spelling.code_attribute (layer a)) read0 (code_form e) (form_code e) (code_spelled e))
+      (as_reads (code_at pool name at) P0 s0 (λ a. IsCodeLayer (layer a)) (λ a. spelling.content_by spelling.code_attribute (layer a)) read0 (code_form e) (form_code e) (code_spelled e))
 
 -- ---- the content of an attribute of a class, a field or a method
 
@@ -252,10 +252,10 @@ pub contents_read : (pool : Pool) → IsFew pool → (stand : Place) (name at : 
 unfolding content_at
 contents_read pool few stand name at named =
     either_reads_all (bytes_eq (own_name stand) (text_of pool name)) (own_content_at pool stand name at) (λ end bytes. cond (is_known stand (text_of pool name)) (annotations_at pool name at end bytes) (other_at name end bytes)) _ _
-      (own stand)
-      (λ o. either_reads_all (is_known stand (text_of pool name)) (annotations_at pool name at) (other_at name) _ _
-        (λ k. annotated pool few name named (IsCodeAttributes pool) spelling.code_attribute stand at o k)
-        (λ k. others pool few name named (IsCodeAttributes pool) spelling.code_attribute stand k))
+    (own stand)
+    (λ o. either_reads_all (is_known stand (text_of pool name)) (annotations_at pool name at) (other_at name) _ _
+    (λ k. annotated pool few name named (IsCodeAttributes pool) spelling.code_attribute stand at o k)
+    (λ k. others pool few name named (IsCodeAttributes pool) spelling.code_attribute stand k))
   where
     own : (s : Place) → bytes_eq (own_name s) (text_of pool name) ≡ true → ReadsAll (own_content_at pool s name at) (λ a. (spelling.name_of (out-Attribute a) ≡ name) × HasForm (IsCodeAttributes pool) pool s (out-Attribute a)) (λ a. spelling.content_by spelling.code_attribute (out-Attribute a))
     own in_class e = bootstraps pool few name named (IsCodeAttributes pool) spelling.code_attribute e
@@ -269,8 +269,8 @@ pub attributes_of : (pool : Pool) → IsFew pool → (stand : Place) (barred : B
 unfolding attributes_at attribute_at spelling.attribute
 attributes_of pool few stand barred =
     attributes_read pool few stand barred (content_at pool stand) (λ a. HasForm (IsCodeAttributes pool) pool stand (out-Attribute a)) (λ a. spelling.content_by spelling.code_attribute (out-Attribute a))
-      (λ name at named. contents_read pool few stand name at named) (λ a is. form_named (IsCodeAttributes pool) pool stand (out-Attribute a) is)
-      (IsAttribute pool stand) (λ a p. record { form = p.0; short = p.1 }) (λ a q. (q.form, q.short)) spelling.attribute (λ a. refl)
+    (λ name at named. contents_read pool few stand name at named) (λ a is. form_named (IsCodeAttributes pool) pool stand (out-Attribute a) is)
+    (IsAttribute pool stand) (λ a p. record { form = p.0; short = p.1 }) (λ a q. (q.form, q.short)) spelling.attribute (λ a. refl)
 
 pub plain_attributes_of : (pool : Pool) → IsFew pool → (stand : Place) → Reads (attributes_at pool stand false) (IsAttributes pool stand) (spelling.counted spelling.attribute)
 plain_attributes_of pool few stand =

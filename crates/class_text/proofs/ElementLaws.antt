@@ -1,9 +1,8 @@
 -- What holds of the readers of annotations.
-use Rattle.std.proofs.Common.{◌≡◌, ℕ, zero, suc, eqb, ◌+◌, ◌^◌, ◌<◌, ◌≤◌, Bool, true, false, cond, ◌||◌, List, [], ◌∷◌, ◌++◌, length, codes, is_some, Option, Some, None, ◌-◌, Ok, Err, refl, sym, ap, subst, ◌∙◌, append_assoc, append-nil, arith, inl, inr}
-use Rattle.std.specs.List.{list_any, AllByRecursion}
+use Rattle.std.proofs.Common.{◌≡◌, ℕ, zero, suc, eqb, ◌^◌, ◌<◌, true, false, cond, List, [], ◌∷◌, ◌++◌, length, Option, Some, None, ◌-◌, Ok, Err, refl, sym, ap, subst, ◌∙◌, arith}
 use Rattle.std.specs.Str.{byte}
 use Rattle.std.specs.Int.{w16, to_be_bytes}
-use Rattle.std.proofs.lemmas.Bool.{cases_Bool, eqb-true}
+use Rattle.std.proofs.lemmas.Bool.{eqb-true}
 use Rattle.std.proofs.lemmas.Bool.Decides.{nat_tests}
 use Rattle.class_model.specs.declared.constant_pool.Constant.{Constant}
 use Rattle.class_model.specs.declared.constant_pool.Constant.TheVariants.{Utf8, Integer, Float, Long, Double}
@@ -17,11 +16,11 @@ use Rattle.class_model.specs.Constants.{constant_at, text_at, is_some_that}
 use Rattle.class_model.specs.Descriptors.{is_field_descriptor, is_return_descriptor}
 use Rattle.class_model.specs.Annotations.{IsCounted, is_value_of, IsPairBy, IsNoteBy, IsElementBy, IsElement, IsAnnotation}
 use Rattle.class_model.specs.Spelling as spelling
-use Rattle.class_text.specs.Reading.{Fault, bad_tag, bad_attribute}
-use Rattle.class_text.specs.Readers.{Reader, u1_at, u2_at, index_at, counted_at}
+use Rattle.class_text.specs.Reading.{bad_tag, bad_attribute}
+use Rattle.class_text.specs.Readers.{Reader, u1_at, index_at, counted_at}
 use Rattle.class_text.specs.Elements.{is_text, is_type, is_result, is_value, is_constant_tag, pair_by, note_by, enum_at, tagged_by, element_at, note_at}
-use Rattle.class_text.proofs.Readers.{Reads, as_reads, give_reads, no_reads, made_reads, layer_reads, bind, bind_reads, either_reads, here_reads}
-use Rattle.class_text.proofs.Parts.{u1_reads, u2_reads, index_reads, each_counted}
+use Rattle.class_text.proofs.Readers.{Reads, as_reads, no_reads, made_reads, layer_reads, bind, bind_reads, either_reads, here_reads}
+use Rattle.class_text.proofs.Parts.{u1_reads, index_reads, each_counted}
 use Rattle.class_text.proofs.Numbered.{IsFew, some_that, numbered, numbered_text}
 
 pub text_reads : (pool : Pool) → IsFew pool → Reads (index_at (is_text pool)) (λ n. is_text pool n ≡ true) (to_be_bytes w16)
@@ -45,22 +44,22 @@ module _ (pool : Pool) (few : IsFew pool) (value : Reader Element) (W : Element 
   unfolding pair_by is_text spelling.pair_by
   pair_reads =
       as_reads (pair_by value pool) (λ p. (is_text pool (out-Pair p).name ≡ true) × (W (out-Pair p).value × (p ≡ roll-Pair (record { name = (out-Pair p).name; value = (out-Pair p).value })))) (λ p. to_be_bytes w16 (out-Pair p).name ++ s (out-Pair p).value) (IsPairBy W pool) (spelling.pair_by s)
-        (bind_reads (index_at (is_text pool)) (λ n. is_text pool n ≡ true) (to_be_bytes w16) (λ name. bind value (λ v end bytes. Ok (roll-Pair (record { name = name; value = v }), bytes)))
-          (λ name p. W (out-Pair p).value × (p ≡ roll-Pair (record { name = name; value = (out-Pair p).value }))) (λ name p. s (out-Pair p).value) (λ p. (out-Pair p).name) (text_reads pool few)
-          (λ name h. made_reads value W s (λ v. roll-Pair (record { name = name; value = v })) (λ p. (out-Pair p).value) (λ v. ap (λ r. r.value) (out-roll-Pair (record { name = name; value = v }))) values)
-          (λ name p q. ap (λ (x : Pair). (out-Pair x).name) q.1 ∙ ap (λ r. r.name) (out-roll-Pair (record { name = name; value = (out-Pair p).value }))))
-        (λ p q. record { name = q.0; value = q.1.0 }) (λ p q. (q.name, (q.value, sym (roll-out-Pair p)))) (λ p q. refl)
+      (bind_reads (index_at (is_text pool)) (λ n. is_text pool n ≡ true) (to_be_bytes w16) (λ name. bind value (λ v end bytes. Ok (roll-Pair (record { name = name; value = v }), bytes)))
+      (λ name p. W (out-Pair p).value × (p ≡ roll-Pair (record { name = name; value = (out-Pair p).value }))) (λ name p. s (out-Pair p).value) (λ p. (out-Pair p).name) (text_reads pool few)
+      (λ name h. made_reads value W s (λ v. roll-Pair (record { name = name; value = v })) (λ p. (out-Pair p).value) (λ v. ap (λ r. r.value) (out-roll-Pair (record { name = name; value = v }))) values)
+      (λ name p q. ap (λ (x : Pair). (out-Pair x).name) q.1 ∙ ap (λ r. r.name) (out-roll-Pair (record { name = name; value = (out-Pair p).value }))))
+      (λ p q. record { name = q.0; value = q.1.0 }) (λ p q. (q.name, (q.value, sym (roll-out-Pair p)))) (λ p q. refl)
 
   pub note_reads : Reads (note_by value pool) (IsNoteBy W pool) (spelling.note_by s)
   unfolding note_by is_type spelling.note_by
   note_reads =
       as_reads (note_by value pool) (λ n. (is_type pool (out-Note n).kind ≡ true) × (IsCounted (IsPairBy W pool) (out-Note n).pairs × (n ≡ roll-Note (record { kind = (out-Note n).kind; pairs = (out-Note n).pairs })))) (λ n. to_be_bytes w16 (out-Note n).kind ++ spelling.counted (spelling.pair_by s) (out-Note n).pairs) (IsNoteBy W pool) (spelling.note_by s)
-        (bind_reads (index_at (is_type pool)) (λ n. is_type pool n ≡ true) (to_be_bytes w16) (λ kind. bind (counted_at (pair_by value pool)) (λ v end bytes. Ok (roll-Note (record { kind = kind; pairs = v }), bytes)))
-          (λ kind n. IsCounted (IsPairBy W pool) (out-Note n).pairs × (n ≡ roll-Note (record { kind = kind; pairs = (out-Note n).pairs }))) (λ kind n. spelling.counted (spelling.pair_by s) (out-Note n).pairs) (λ n. (out-Note n).kind) (type_reads pool few)
-          (λ kind h. made_reads (counted_at (pair_by value pool)) (IsCounted (IsPairBy W pool)) (spelling.counted (spelling.pair_by s)) (λ v. roll-Note (record { kind = kind; pairs = v })) (λ n. (out-Note n).pairs) (λ v. ap (λ r. r.pairs) (out-roll-Note (record { kind = kind; pairs = v })))
-            (each_counted (pair_by value pool) (IsPairBy W pool) (spelling.pair_by s) pair_reads))
-          (λ kind n q. ap (λ (x : Note). (out-Note x).kind) q.1 ∙ ap (λ r. r.kind) (out-roll-Note (record { kind = kind; pairs = (out-Note n).pairs }))))
-        (λ n q. record { kind = q.0; pairs = q.1.0 }) (λ n q. (q.kind, (q.pairs, sym (roll-out-Note n)))) (λ n q. refl)
+      (bind_reads (index_at (is_type pool)) (λ n. is_type pool n ≡ true) (to_be_bytes w16) (λ kind. bind (counted_at (pair_by value pool)) (λ v end bytes. Ok (roll-Note (record { kind = kind; pairs = v }), bytes)))
+      (λ kind n. IsCounted (IsPairBy W pool) (out-Note n).pairs × (n ≡ roll-Note (record { kind = kind; pairs = (out-Note n).pairs }))) (λ kind n. spelling.counted (spelling.pair_by s) (out-Note n).pairs) (λ n. (out-Note n).kind) (type_reads pool few)
+      (λ kind h. made_reads (counted_at (pair_by value pool)) (IsCounted (IsPairBy W pool)) (spelling.counted (spelling.pair_by s)) (λ v. roll-Note (record { kind = kind; pairs = v })) (λ n. (out-Note n).pairs) (λ v. ap (λ r. r.pairs) (out-roll-Note (record { kind = kind; pairs = v })))
+      (each_counted (pair_by value pool) (IsPairBy W pool) (spelling.pair_by s) pair_reads))
+      (λ kind n q. ap (λ (x : Note). (out-Note x).kind) q.1 ∙ ap (λ r. r.kind) (out-roll-Note (record { kind = kind; pairs = (out-Note n).pairs }))))
+      (λ n q. record { kind = q.0; pairs = q.1.0 }) (λ n q. (q.kind, (q.pairs, sym (roll-out-Note n)))) (λ n q. refl)
 
 -- the tag of a value, and what stands behind it
 tag_of : ElementLayer → ℕ
@@ -144,7 +143,7 @@ module _ (pool : Pool) (few : IsFew pool) (value : Reader Element) (W : Element 
   unfolding IsTagged tag_of rest_of is_value index_of
   constants tag is =
       layer_reads roll-Element out-Element out-roll-Element roll-out-Element (index_at (is_value pool tag)) (λ n. is_value pool tag n ≡ true) (to_be_bytes w16) (Element-F.Const tag) index_of (λ n. refl) (IsTagged W pool tag) (rest_of s) (value_reads pool few tag)
-        (λ n h. (refl, h)) from (λ n h. refl)
+      (λ n h. (refl, h)) from (λ n h. refl)
     where
       from : (l : ElementLayer) → IsTagged W pool tag l → (is_value pool tag (index_of l) ≡ true) × (l ≡ Element-F.Const tag (index_of l))
       from (Element-F.Const k index) q = (subst (λ (n : ℕ). is_value pool n index ≡ true) q.0 q.1, ap (λ (n : ℕ). Element-F.Const n index) q.0)
@@ -157,7 +156,7 @@ module _ (pool : Pool) (few : IsFew pool) (value : Reader Element) (W : Element 
   unfolding IsTagged tag_of rest_of is_result index_of
   classes tag no_constant is =
       layer_reads roll-Element out-Element out-roll-Element roll-out-Element (index_at (is_result pool)) (λ n. is_result pool n ≡ true) (to_be_bytes w16) Element-F.OfClass index_of (λ n. refl) (IsTagged W pool tag) (rest_of s) (result_reads pool few)
-        (λ n h. (sym (eqb-true tag (byte "c") is), h)) from (λ n h. refl)
+      (λ n h. (sym (eqb-true tag (byte "c") is), h)) from (λ n h. refl)
     where
       from : (l : ElementLayer) → IsTagged W pool tag l → (is_result pool (index_of l) ≡ true) × (l ≡ Element-F.OfClass (index_of l))
       from (Element-F.Const k index) q = absurd (let h : false ≡ true = sym no_constant ∙ ap is_constant_tag (sym q.0) ∙ value_tag_some pool k index q.1 in cc)
@@ -170,7 +169,7 @@ module _ (pool : Pool) (few : IsFew pool) (value : Reader Element) (W : Element 
   unfolding IsTagged tag_of rest_of note_of
   notes tag no_constant is =
       layer_reads roll-Element out-Element out-roll-Element roll-out-Element (note_by value pool) (IsNoteBy W pool) (spelling.note_by s) Element-F.Nested note_of (λ n. refl) (IsTagged W pool tag) (rest_of s) (note_reads pool few value W s values)
-        (λ n h. (sym (eqb-true tag (byte "@") is), h)) from (λ n h. refl)
+      (λ n h. (sym (eqb-true tag (byte "@") is), h)) from (λ n h. refl)
     where
       from : (l : ElementLayer) → IsTagged W pool tag l → IsNoteBy W pool (note_of l) × (l ≡ Element-F.Nested (note_of l))
       from (Element-F.Const k index) q = absurd (let h : false ≡ true = sym no_constant ∙ ap is_constant_tag (sym q.0) ∙ value_tag_some pool k index q.1 in cc)
@@ -183,7 +182,7 @@ module _ (pool : Pool) (few : IsFew pool) (value : Reader Element) (W : Element 
   unfolding IsTagged tag_of rest_of values_of
   arrays tag no_constant is =
       layer_reads roll-Element out-Element out-roll-Element roll-out-Element (counted_at value) (IsCounted W) (spelling.counted s) Element-F.Many values_of (λ n. refl) (IsTagged W pool tag) (rest_of s) (each_counted value W s values)
-        (λ n h. (sym (eqb-true tag (byte "[") is), h)) from (λ n h. refl)
+      (λ n h. (sym (eqb-true tag (byte "[") is), h)) from (λ n h. refl)
     where
       from : (l : ElementLayer) → IsTagged W pool tag l → IsCounted W (values_of l) × (l ≡ Element-F.Many (values_of l))
       from (Element-F.Const k index) q = absurd (let h : false ≡ true = sym no_constant ∙ ap is_constant_tag (sym q.0) ∙ value_tag_some pool k index q.1 in cc)
@@ -196,14 +195,14 @@ module _ (pool : Pool) (few : IsFew pool) (value : Reader Element) (W : Element 
   unfolding IsTagged tag_of rest_of is_type is_text enum_at index_of name_of
   enums tag no_constant is =
       as_reads (enum_at pool) (λ e. (is_type pool (index_of (out-Element e)) ≡ true) × ((is_text pool (name_of (out-Element e)) ≡ true) × (e ≡ roll-Element (Element-F.Enum (index_of (out-Element e)) (name_of (out-Element e)))))) (λ e. to_be_bytes w16 (index_of (out-Element e)) ++ to_be_bytes w16 (name_of (out-Element e))) (Q tag) t
-        (bind_reads (index_at (is_type pool)) (λ n. is_type pool n ≡ true) (to_be_bytes w16) (λ kind. bind (index_at (is_text pool)) (λ name end bytes. Ok (roll-Element (Element-F.Enum kind name), bytes)))
-          (λ kind e. (is_text pool (name_of (out-Element e)) ≡ true) × (e ≡ roll-Element (Element-F.Enum kind (name_of (out-Element e))))) (λ kind e. to_be_bytes w16 (name_of (out-Element e))) (λ e. index_of (out-Element e)) (type_reads pool few)
-          (λ kind h. made_reads (index_at (is_text pool)) (λ n. is_text pool n ≡ true) (to_be_bytes w16) (λ name. roll-Element (Element-F.Enum kind name)) (λ e. name_of (out-Element e)) (λ name. ap name_of (out-roll-Element (Element-F.Enum kind name))) (text_reads pool few))
-          (λ kind e q. ap (λ (x : Element). index_of (out-Element x)) q.1 ∙ ap index_of (out-roll-Element (Element-F.Enum kind (name_of (out-Element e))))))
-        (λ e p. let opened = ap out-Element p.1.1 ∙ out-roll-Element (Element-F.Enum (index_of (out-Element e)) (name_of (out-Element e))) in
-          subst (IsTagged W pool tag) (sym opened) (sym (eqb-true tag (byte "e") is), (p.0, p.1.0)))
-        (λ e q. let f = from (out-Element e) q in (f.0, (f.1, sym (roll-out-Element e) ∙ ap roll-Element f.2)))
-        (λ e q. let f = from (out-Element e) q in ap (rest_of s) (sym f.2))
+      (bind_reads (index_at (is_type pool)) (λ n. is_type pool n ≡ true) (to_be_bytes w16) (λ kind. bind (index_at (is_text pool)) (λ name end bytes. Ok (roll-Element (Element-F.Enum kind name), bytes)))
+      (λ kind e. (is_text pool (name_of (out-Element e)) ≡ true) × (e ≡ roll-Element (Element-F.Enum kind (name_of (out-Element e))))) (λ kind e. to_be_bytes w16 (name_of (out-Element e))) (λ e. index_of (out-Element e)) (type_reads pool few)
+      (λ kind h. made_reads (index_at (is_text pool)) (λ n. is_text pool n ≡ true) (to_be_bytes w16) (λ name. roll-Element (Element-F.Enum kind name)) (λ e. name_of (out-Element e)) (λ name. ap name_of (out-roll-Element (Element-F.Enum kind name))) (text_reads pool few))
+      (λ kind e q. ap (λ (x : Element). index_of (out-Element x)) q.1 ∙ ap index_of (out-roll-Element (Element-F.Enum kind (name_of (out-Element e))))))
+      (λ e p. let opened = ap out-Element p.1.1 ∙ out-roll-Element (Element-F.Enum (index_of (out-Element e)) (name_of (out-Element e))) in
+      subst (IsTagged W pool tag) (sym opened) (sym (eqb-true tag (byte "e") is), (p.0, p.1.0)))
+      (λ e q. let f = from (out-Element e) q in (f.0, (f.1, sym (roll-out-Element e) ∙ ap roll-Element f.2)))
+      (λ e q. let f = from (out-Element e) q in ap (rest_of s) (sym f.2))
     where
       from : (l : ElementLayer) → IsTagged W pool tag l → (is_type pool (index_of l) ≡ true) × (is_text pool (name_of l) ≡ true) × (l ≡ Element-F.Enum (index_of l) (name_of l))
       from (Element-F.Const k index) q = absurd (let h : false ≡ true = sym no_constant ∙ ap is_constant_tag (sym q.0) ∙ value_tag_some pool k index q.1 in cc)
@@ -254,9 +253,9 @@ module _ (pool : Pool) (few : IsFew pool) (value : Reader Element) (W : Element 
   unfolding IsTagged
   value_by_reads =
       here_reads (λ at. bind u1_at (tagged_by value pool at)) (λ e. IsElementBy W pool (out-Element e)) (λ e. spelling.element_by s (out-Element e)) (λ at.
-        as_reads (bind u1_at (tagged_by value pool at)) (λ e. (tag_of (out-Element e) < 2 ^ 8) × Q (tag_of (out-Element e)) e) (λ e. (tag_of (out-Element e) ∷ []) ++ t e) (λ e. IsElementBy W pool (out-Element e)) (λ e. spelling.element_by s (out-Element e))
-          (bind_reads u1_at (λ n. n < 2 ^ 8) (λ n. n ∷ []) (tagged_by value pool at) Q (λ tag. t) (λ e. tag_of (out-Element e)) u1_reads (λ tag low. tagged_reads at tag) (λ tag e q. q.0))
-          (λ e p. p.1.1) (λ e is. (tag_fits (out-Element e) is, (refl, is))) (λ e is. spelled s (out-Element e)))
+      as_reads (bind u1_at (tagged_by value pool at)) (λ e. (tag_of (out-Element e) < 2 ^ 8) × Q (tag_of (out-Element e)) e) (λ e. (tag_of (out-Element e) ∷ []) ++ t e) (λ e. IsElementBy W pool (out-Element e)) (λ e. spelling.element_by s (out-Element e))
+      (bind_reads u1_at (λ n. n < 2 ^ 8) (λ n. n ∷ []) (tagged_by value pool at) Q (λ tag. t) (λ e. tag_of (out-Element e)) u1_reads (λ tag low. tagged_reads at tag) (λ tag e q. q.0))
+      (λ e p. p.1.1) (λ e is. (tag_fits (out-Element e) is, (refl, is))) (λ e is. spelled s (out-Element e)))
 
 pub element_reads : (at : ℕ) (pool : Pool) → IsFew pool → (depth : ℕ) → Reads (element_at at pool depth) (IsElement pool depth) (spelling.element depth)
 unfolding element_at IsElement spelling.element

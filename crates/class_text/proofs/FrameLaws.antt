@@ -1,21 +1,21 @@
 -- What holds of the readers of stack maps.
-use Rattle.std.proofs.Common.{◌≡◌, ℕ, zero, suc, eqb, ltb, ◌+◌, ◌-◌, ◌^◌, ◌<◌, ◌≤◌, Bool, true, false, cond, not, ◌&&◌, List, [], ◌∷◌, ◌++◌, length, flat_map, Ok, Err, IsTrue, refl, sym, ap, subst, ◌∙◌, append_assoc, append-nil, eq-eqb, arith, inl, inr}
+use Rattle.std.proofs.Common.{◌≡◌, ℕ, suc, eqb, ltb, ◌-◌, ◌^◌, ◌<◌, Bool, true, false, cond, ◌&&◌, List, [], ◌∷◌, ◌++◌, length, flat_map, Ok, Err, refl, sym, ap, subst, ◌∙◌, append_assoc, append-nil, eq-eqb, arith, inl, inr}
 use Rattle.std.specs.List.{AllByRecursion}
 use Rattle.std.specs.Int.{w16, to_be_bytes}
-use Rattle.std.proofs.lemmas.Bool.{cases_Bool, eqb-true, eqb-false, and_parts, and_from, ltb-true, ltb-false, le-ltb}
+use Rattle.std.proofs.lemmas.Bool.{cases_Bool, eqb-true, eqb-false, and_parts, ltb-true, ltb-false, le-ltb}
 use Rattle.std.proofs.lemmas.Bool.Decides.{nat_tests}
 use Rattle.class_model.specs.declared.constant_pool.Pool.{Pool}
 use Rattle.class_model.specs.declared.stack_map.StackFrame.{StackFrame}
 use Rattle.class_model.specs.declared.stack_map.FrameType.{FrameType}
-use Rattle.class_model.specs.Constants.{constant_at, is_some_that, is_class_constant}
+use Rattle.class_model.specs.Constants.{constant_at, is_class_constant}
 use Rattle.class_model.specs.Annotations.{IsCounted}
 use Rattle.class_model.specs.Attributes.{IsFrameType, IsFrame, has_layout}
 use Rattle.class_model.specs.Spelling.{frame_type, frame, counted}
-use Rattle.class_text.specs.Reading.{Fault, bad_tag, bad_index}
+use Rattle.class_text.specs.Reading.{bad_tag}
 use Rattle.class_text.specs.Readers.{Reader, u1_at, u2_at, index_at, many_at, counted_at}
 use Rattle.class_text.specs.Frames.{is_class, type_of, typed_at, frame_type_at, frame_of, with_item_at, with_locals_at, full_at, behind_delta_at, framed_at, frame_at}
 use Rattle.class_text.proofs.Readers.{Reads, as_reads, give_reads, no_reads, made_reads, bind, bind_reads, either_reads, here_reads}
-use Rattle.class_text.proofs.Parts.{u1_reads, u2_reads, index_reads, many_reads, counted_reads, each_counted, AllAfter, all_each, all_after}
+use Rattle.class_text.proofs.Parts.{u1_reads, u2_reads, index_reads, many_reads, each_counted, AllAfter, all_each, all_after}
 use Rattle.class_text.proofs.Numbered.{IsFew, some_that, numbered}
 
 class_reads : (pool : Pool) → IsFew pool → Reads (index_at (is_class pool)) (λ n. is_class pool n ≡ true) (to_be_bytes w16)
@@ -91,17 +91,17 @@ typed_reads : (pool : Pool) → IsFew pool → (at tag : ℕ) → Reads (typed_a
 unfolding typed_at
 typed_reads pool few at tag =
     either_reads (ltb tag 7) (λ end bytes. Ok (type_of tag 0, bytes)) (λ end bytes. cond (eqb tag 7) (of_class end bytes) (cond (eqb tag 8) (of_new end bytes) (Err (bad_tag at tag)))) (IsTyped pool tag) behind_tag
-      (λ low. as_reads (λ end bytes. Ok (type_of tag 0, bytes)) (λ t. t ≡ type_of tag 0) (λ t. []) (IsTyped pool tag) behind_tag (give_reads (type_of tag 0))
-        (λ t e. subst (IsTyped pool tag) (sym e) (plain_typed pool tag low)) (λ t q. plain_type pool tag t low q) (λ t q. behind_none pool tag t low q))
-      (λ high. either_reads (eqb tag 7) of_class (λ end bytes. cond (eqb tag 8) (of_new end bytes) (Err (bad_tag at tag))) (IsTyped pool tag) behind_tag
-        (λ seven. as_reads of_class (λ t. (is_class pool t.index ≡ true) × (t ≡ type_of tag t.index)) (λ t. to_be_bytes w16 t.index) (IsTyped pool tag) behind_tag
-          (made_reads (index_at (is_class pool)) (λ n. is_class pool n ≡ true) (to_be_bytes w16) (type_of tag) (λ t. t.index) (λ n. refl) (class_reads pool few))
-          (λ t p. class_typed pool tag t seven p.0 p.1) (λ t q. typed_class pool tag t seven q) (λ t q. behind_some pool tag t high q))
-        (λ not_seven. either_reads (eqb tag 8) of_new (λ end bytes. Err (bad_tag at tag)) (IsTyped pool tag) behind_tag
-          (λ eight. as_reads of_new (λ t. (t.index < 2 ^ 16) × (t ≡ type_of tag t.index)) (λ t. to_be_bytes w16 t.index) (IsTyped pool tag) behind_tag
-            (made_reads u2_at (λ n. n < 2 ^ 16) (to_be_bytes w16) (type_of tag) (λ t. t.index) (λ n. refl) u2_reads)
-            (λ t p. new_typed pool tag t eight p.0 p.1) (λ t q. typed_new pool tag t eight q) (λ t q. behind_some pool tag t high q))
-          (λ not_eight. no_reads (bad_tag at tag) (IsTyped pool tag) behind_tag (λ t q. untyped pool tag t high not_seven not_eight q))))
+    (λ low. as_reads (λ end bytes. Ok (type_of tag 0, bytes)) (λ t. t ≡ type_of tag 0) (λ t. []) (IsTyped pool tag) behind_tag (give_reads (type_of tag 0))
+    (λ t e. subst (IsTyped pool tag) (sym e) (plain_typed pool tag low)) (λ t q. plain_type pool tag t low q) (λ t q. behind_none pool tag t low q))
+    (λ high. either_reads (eqb tag 7) of_class (λ end bytes. cond (eqb tag 8) (of_new end bytes) (Err (bad_tag at tag))) (IsTyped pool tag) behind_tag
+    (λ seven. as_reads of_class (λ t. (is_class pool t.index ≡ true) × (t ≡ type_of tag t.index)) (λ t. to_be_bytes w16 t.index) (IsTyped pool tag) behind_tag
+    (made_reads (index_at (is_class pool)) (λ n. is_class pool n ≡ true) (to_be_bytes w16) (type_of tag) (λ t. t.index) (λ n. refl) (class_reads pool few))
+    (λ t p. class_typed pool tag t seven p.0 p.1) (λ t q. typed_class pool tag t seven q) (λ t q. behind_some pool tag t high q))
+    (λ not_seven. either_reads (eqb tag 8) of_new (λ end bytes. Err (bad_tag at tag)) (IsTyped pool tag) behind_tag
+    (λ eight. as_reads of_new (λ t. (t.index < 2 ^ 16) × (t ≡ type_of tag t.index)) (λ t. to_be_bytes w16 t.index) (IsTyped pool tag) behind_tag
+    (made_reads u2_at (λ n. n < 2 ^ 16) (to_be_bytes w16) (type_of tag) (λ t. t.index) (λ n. refl) u2_reads)
+    (λ t p. new_typed pool tag t eight p.0 p.1) (λ t q. typed_new pool tag t eight q) (λ t q. behind_some pool tag t high q))
+    (λ not_eight. no_reads (bad_tag at tag) (IsTyped pool tag) behind_tag (λ t q. untyped pool tag t high not_seven not_eight q))))
   where
     of_class : Reader FrameType
     of_class = bind (index_at (is_class pool)) (λ n end bytes. Ok (type_of tag n, bytes))
@@ -120,17 +120,17 @@ pub frame_type_reads : (pool : Pool) → IsFew pool → Reads (frame_type_at poo
 unfolding frame_type_at IsTyped
 frame_type_reads pool few =
     here_reads (λ at. bind u1_at (typed_at pool at)) (IsFrameType pool) frame_type (λ at.
-      as_reads (bind u1_at (typed_at pool at)) (λ t. (t.tag < 2 ^ 8) × IsTyped pool t.tag t) (λ t. (t.tag ∷ []) ++ behind_tag t) (IsFrameType pool) frame_type
-        (bind_reads u1_at (λ n. n < 2 ^ 8) (λ n. n ∷ []) (typed_at pool at) (IsTyped pool) (λ tag. behind_tag) (λ t. t.tag) u1_reads (λ tag low. typed_reads pool few at tag) (λ tag t q. q.0))
-        (λ t p. p.1.1) (λ t is. (tag_fits pool t is, (refl, is))) (λ t is. typed_spelling t))
+    as_reads (bind u1_at (typed_at pool at)) (λ t. (t.tag < 2 ^ 8) × IsTyped pool t.tag t) (λ t. (t.tag ∷ []) ++ behind_tag t) (IsFrameType pool) frame_type
+    (bind_reads u1_at (λ n. n < 2 ^ 8) (λ n. n ∷ []) (typed_at pool at) (IsTyped pool) (λ tag. behind_tag) (λ t. t.tag) u1_reads (λ tag low. typed_reads pool few at tag) (λ tag t q. q.0))
+    (λ t p. p.1.1) (λ t is. (tag_fits pool t is, (refl, is))) (λ t is. typed_spelling t))
 
 -- ---- frames
 
 types_reads : (pool : Pool) → IsFew pool → (n : ℕ) → Reads (many_at (frame_type_at pool) n) (λ ts. (length ts ≡ n) × AllByRecursion (IsFrameType pool) ts) (flat_map frame_type)
 types_reads pool few n =
     as_reads (many_at (frame_type_at pool) n) (λ ts. (length ts ≡ n) × AllAfter (λ before. IsFrameType pool) [] ts) (flat_map frame_type) (λ ts. (length ts ≡ n) × AllByRecursion (IsFrameType pool) ts) (flat_map frame_type)
-      (many_reads (λ before. frame_type_at pool) (λ before. IsFrameType pool) frame_type (λ before. frame_type_reads pool few) n [])
-      (λ ts p. (p.0, all_each (IsFrameType pool) [] ts p.1)) (λ ts p. (p.0, all_after (IsFrameType pool) [] ts p.1)) (λ ts p. refl)
+    (many_reads (λ before. frame_type_at pool) (λ before. IsFrameType pool) frame_type (λ before. frame_type_reads pool few) n [])
+    (λ ts p. (p.0, all_each (IsFrameType pool) [] ts p.1)) (λ ts p. (p.0, all_after (IsFrameType pool) [] ts p.1)) (λ ts p. refl)
 
 none_of : {A : Type 0} (xs : List A) → length xs ≡ 0 → xs ≡ []
 none_of [] e = refl
@@ -207,8 +207,8 @@ with_item_reads : (pool : Pool) → IsFew pool → (tag delta : ℕ) → Reads (
 unfolding with_item_at
 with_item_reads pool few tag delta =
     as_reads (with_item_at pool tag delta) (λ f. ((length f.stack ≡ 1) × AllByRecursion (IsFrameType pool) f.stack) × (f ≡ frame_of tag delta [] f.stack)) (λ f. flat_map frame_type f.stack) (HasItem pool tag delta) (λ f. flat_map frame_type f.stack)
-      (made_reads (many_at (frame_type_at pool) 1) (λ ts. (length ts ≡ 1) × AllByRecursion (IsFrameType pool) ts) (flat_map frame_type) (frame_of tag delta []) (λ f. f.stack) (λ ts. refl) (types_reads pool few 1))
-      (λ f p. record { one = p.0.0; typed = p.0.1; is = p.1 }) (λ f h. ((h.one, h.typed), h.is)) (λ f h. refl)
+    (made_reads (many_at (frame_type_at pool) 1) (λ ts. (length ts ≡ 1) × AllByRecursion (IsFrameType pool) ts) (flat_map frame_type) (frame_of tag delta []) (λ f. f.stack) (λ ts. refl) (types_reads pool few 1))
+    (λ f p. record { one = p.0.0; typed = p.0.1; is = p.1 }) (λ f h. ((h.one, h.typed), h.is)) (λ f h. refl)
 
 item_tag : (pool : Pool) (tag delta : ℕ) (f : StackFrame) → HasItem pool tag delta f → f.tag ≡ tag
 item_tag pool tag delta f h = ap (λ (x : StackFrame). x.tag) h.is
@@ -220,13 +220,15 @@ item_framed pool tag f high low h =
     let delta : f.delta ≡ tag - 64 = ap (λ (x : StackFrame). x.delta) h.is in
     let locals : f.locals ≡ [] = ap (λ (x : StackFrame). x.locals) h.is in
     let small = ltb-true tag 128 low in
-    let some : eqb (length f.stack) 1 ≡ true = eq-eqb (length f.stack) 1 h.one in
-    (same, record {
-      layout = rw (same, high, low, delta, eq-eqb (tag - 64) (tag - 64) refl, locals, some) refl;
-      delta = omega (arith, delta, small);
-      locals = rw locals (no_types pool);
-      stack = one_type pool f.stack 1 h.one (omega arith) h.typed;
-    })
+    let some : eqb (length f.stack) 1 ≡ true = eq-eqb (length f.stack) 1 h.one in (
+      same,
+      record {
+        layout = rw (same, high, low, delta, eq-eqb (tag - 64) (tag - 64) refl, locals, some) refl;
+        delta = omega (arith, delta, small);
+        locals = rw locals (no_types pool);
+        stack = one_type pool f.stack 1 h.one (omega arith) h.typed;
+      },
+    )
 
 framed_item : (pool : Pool) (tag : ℕ) (f : StackFrame) → ltb tag 64 ≡ false → ltb tag 128 ≡ true → IsFramed pool tag f → HasItem pool tag (tag - 64) f
 unfolding IsFramed has_layout
@@ -240,13 +242,16 @@ item_delta pool tag delta f high low is h =
     let same = item_tag pool tag delta f h in
     let there : f.delta ≡ delta = ap (λ (x : StackFrame). x.delta) h.is in
     let locals : f.locals ≡ [] = ap (λ (x : StackFrame). x.locals) h.is in
-    let some : eqb (length f.stack) 1 ≡ true = eq-eqb (length f.stack) 1 h.one in
-    (same, there, record {
-      layout = rw (same, high.same, high.item, high.bad, is, locals, some) refl;
-      delta = omega (arith, there, low);
-      locals = rw locals (no_types pool);
-      stack = one_type pool f.stack 1 h.one (omega arith) h.typed;
-    })
+    let some : eqb (length f.stack) 1 ≡ true = eq-eqb (length f.stack) 1 h.one in (
+      same,
+      there,
+      record {
+        layout = rw (same, high.same, high.item, high.bad, is, locals, some) refl;
+        delta = omega (arith, there, low);
+        locals = rw locals (no_types pool);
+        stack = one_type pool f.stack 1 h.one (omega arith) h.typed;
+      },
+    )
 
 delta_item : (pool : Pool) (tag delta : ℕ) (f : StackFrame) → IsHigh tag → eqb tag 247 ≡ true → IsDelta pool tag delta f → HasItem pool tag delta f
 unfolding IsDelta has_layout
@@ -277,8 +282,8 @@ with_locals_reads : (pool : Pool) → IsFew pool → (tag delta many : ℕ) → 
 unfolding with_locals_at
 with_locals_reads pool few tag delta many =
     as_reads (with_locals_at pool tag delta many) (λ f. ((length f.locals ≡ many) × AllByRecursion (IsFrameType pool) f.locals) × (f ≡ frame_of tag delta f.locals [])) (λ f. flat_map frame_type f.locals) (HasLocals pool tag delta many) (λ f. flat_map frame_type f.locals)
-      (made_reads (many_at (frame_type_at pool) many) (λ ts. (length ts ≡ many) × AllByRecursion (IsFrameType pool) ts) (flat_map frame_type) (λ ts. frame_of tag delta ts []) (λ f. f.locals) (λ ts. refl) (types_reads pool few many))
-      (λ f p. record { count = p.0.0; typed = p.0.1; is = p.1 }) (λ f h. ((h.count, h.typed), h.is)) (λ f h. refl)
+    (made_reads (many_at (frame_type_at pool) many) (λ ts. (length ts ≡ many) × AllByRecursion (IsFrameType pool) ts) (flat_map frame_type) (λ ts. frame_of tag delta ts []) (λ f. f.locals) (λ ts. refl) (types_reads pool few many))
+    (λ f p. record { count = p.0.0; typed = p.0.1; is = p.1 }) (λ f h. ((h.count, h.typed), h.is)) (λ f h. refl)
 
 locals_delta : (pool : Pool) (tag delta : ℕ) (f : StackFrame) → IsHigh tag → delta < 2 ^ 16 → eqb tag 247 ≡ false → ltb tag 252 ≡ false → ltb tag 255 ≡ true → HasLocals pool tag delta (tag - 251) f → IsDelta pool tag delta f
 unfolding IsDelta has_layout
@@ -287,13 +292,16 @@ locals_delta pool tag delta f high low other past is h =
     let there : f.delta ≡ delta = ap (λ (x : StackFrame). x.delta) h.is in
     let stack : f.stack ≡ [] = ap (λ (x : StackFrame). x.stack) h.is in
     let small = ltb-true tag 255 is in
-    let count : eqb (length f.locals) (tag - 251) ≡ true = eq-eqb (length f.locals) (tag - 251) h.count in
-    (same, there, record {
-      layout = rw (same, high.same, high.item, high.bad, other, past, is, count, stack) refl;
-      delta = omega (arith, there, low);
-      locals = one_type pool f.locals (tag - 251) h.count (omega (arith, small)) h.typed;
-      stack = rw stack (no_types pool);
-    })
+    let count : eqb (length f.locals) (tag - 251) ≡ true = eq-eqb (length f.locals) (tag - 251) h.count in (
+      same,
+      there,
+      record {
+        layout = rw (same, high.same, high.item, high.bad, other, past, is, count, stack) refl;
+        delta = omega (arith, there, low);
+        locals = one_type pool f.locals (tag - 251) h.count (omega (arith, small)) h.typed;
+        stack = rw stack (no_types pool);
+      },
+    )
 
 delta_locals : (pool : Pool) (tag delta : ℕ) (f : StackFrame) → IsHigh tag → eqb tag 247 ≡ false → ltb tag 252 ≡ false → ltb tag 255 ≡ true → IsDelta pool tag delta f → HasLocals pool tag delta (tag - 251) f
 unfolding IsDelta has_layout
@@ -318,9 +326,9 @@ unfolding full_at
 full_reads pool few tag delta =
     let types = each_counted (frame_type_at pool) (IsFrameType pool) frame_type (frame_type_reads pool few) in
     bind_reads (counted_at (frame_type_at pool)) (IsCounted (IsFrameType pool)) (counted frame_type) (λ locals. bind (counted_at (frame_type_at pool)) (λ stack end bytes. Ok (frame_of tag delta locals stack, bytes)))
-      (λ locals f. IsCounted (IsFrameType pool) f.stack × (f ≡ frame_of tag delta locals f.stack)) (λ locals f. counted frame_type f.stack) (λ f. f.locals) types
-      (λ locals p. made_reads (counted_at (frame_type_at pool)) (IsCounted (IsFrameType pool)) (counted frame_type) (frame_of tag delta locals) (λ f. f.stack) (λ ts. refl) types)
-      (λ locals f q. ap (λ (x : StackFrame). x.locals) q.1)
+    (λ locals f. IsCounted (IsFrameType pool) f.stack × (f ≡ frame_of tag delta locals f.stack)) (λ locals f. counted frame_type f.stack) (λ f. f.locals) types
+    (λ locals p. made_reads (counted_at (frame_type_at pool)) (IsCounted (IsFrameType pool)) (counted frame_type) (frame_of tag delta locals) (λ f. f.stack) (λ ts. refl) types)
+    (λ locals f q. ap (λ (x : StackFrame). x.locals) q.1)
 
 -- ---- together
 
@@ -339,26 +347,26 @@ behind_delta_reads : (pool : Pool) → IsFew pool → (tag delta : ℕ) → IsHi
 unfolding behind_delta_at IsDelta delta_rest
 behind_delta_reads pool few tag delta high byte low =
     either_reads (eqb tag 247) (with_item_at pool tag delta) (λ end bytes. cond (ltb tag 252) (Ok (frame_of tag delta [] [], bytes)) (cond (ltb tag 255) (with_locals_at pool tag delta (tag - 251) end bytes) (full_at pool tag delta end bytes))) (IsDelta pool tag delta) delta_rest
-      (λ is. let at = eqb-true tag 247 is in let less : ltb tag 255 ≡ true = grind (arith, nat_tests) in
-        as_reads (with_item_at pool tag delta) (HasItem pool tag delta) (λ f. flat_map frame_type f.stack) (IsDelta pool tag delta) delta_rest (with_item_reads pool few tag delta)
-          (λ f h. item_delta pool tag delta f high low is h) (λ f q. delta_item pool tag delta f high is q) (λ f q. items_spelled pool tag delta f less (delta_item pool tag delta f high is q)))
-      (λ other. either_reads (ltb tag 252) (λ end bytes. Ok (frame_of tag delta [] [], bytes)) (λ end bytes. cond (ltb tag 255) (with_locals_at pool tag delta (tag - 251) end bytes) (full_at pool tag delta end bytes)) (IsDelta pool tag delta) delta_rest
-        (λ is. let less : ltb tag 255 ≡ true = grind (arith, nat_tests) in
-          as_reads (λ end bytes. Ok (frame_of tag delta [] [], bytes)) (λ f. f ≡ frame_of tag delta [] []) (λ f. []) (IsDelta pool tag delta) delta_rest (give_reads (frame_of tag delta [] []))
-            (λ f e. subst (IsDelta pool tag delta) (sym e) (chop_delta pool tag delta high low other is)) (λ f q. delta_chop pool tag delta f high other is q)
-            (λ f q. rw (delta_chop pool tag delta f high other is q, less) refl))
-        (λ past. either_reads (ltb tag 255) (with_locals_at pool tag delta (tag - 251)) (full_at pool tag delta) (IsDelta pool tag delta) delta_rest
-          (λ is. as_reads (with_locals_at pool tag delta (tag - 251)) (HasLocals pool tag delta (tag - 251)) (λ f. flat_map frame_type f.locals) (IsDelta pool tag delta) delta_rest (with_locals_reads pool few tag delta (tag - 251))
-            (λ f h. locals_delta pool tag delta f high low other past is h) (λ f q. delta_locals pool tag delta f high other past is q) (λ f q. locals_spelled pool tag delta (tag - 251) f is (delta_locals pool tag delta f high other past is q)))
-          (λ end. as_reads (full_at pool tag delta) _ _ (IsDelta pool tag delta) delta_rest (full_reads pool few tag delta)
-            (λ f p. full_delta pool tag delta f high byte low other past end p.0 p.1.0 p.1.1) (λ f q. (q.2.locals, (q.2.stack, frame_is f tag delta f.locals f.stack q.0 q.1 refl refl))) (λ f q. rw (q.0, end) refl))))
+    (λ is. let at = eqb-true tag 247 is in let less : ltb tag 255 ≡ true = grind (arith, nat_tests) in
+    as_reads (with_item_at pool tag delta) (HasItem pool tag delta) (λ f. flat_map frame_type f.stack) (IsDelta pool tag delta) delta_rest (with_item_reads pool few tag delta)
+    (λ f h. item_delta pool tag delta f high low is h) (λ f q. delta_item pool tag delta f high is q) (λ f q. items_spelled pool tag delta f less (delta_item pool tag delta f high is q)))
+    (λ other. either_reads (ltb tag 252) (λ end bytes. Ok (frame_of tag delta [] [], bytes)) (λ end bytes. cond (ltb tag 255) (with_locals_at pool tag delta (tag - 251) end bytes) (full_at pool tag delta end bytes)) (IsDelta pool tag delta) delta_rest
+    (λ is. let less : ltb tag 255 ≡ true = grind (arith, nat_tests) in
+    as_reads (λ end bytes. Ok (frame_of tag delta [] [], bytes)) (λ f. f ≡ frame_of tag delta [] []) (λ f. []) (IsDelta pool tag delta) delta_rest (give_reads (frame_of tag delta [] []))
+    (λ f e. subst (IsDelta pool tag delta) (sym e) (chop_delta pool tag delta high low other is)) (λ f q. delta_chop pool tag delta f high other is q)
+    (λ f q. rw (delta_chop pool tag delta f high other is q, less) refl))
+    (λ past. either_reads (ltb tag 255) (with_locals_at pool tag delta (tag - 251)) (full_at pool tag delta) (IsDelta pool tag delta) delta_rest
+    (λ is. as_reads (with_locals_at pool tag delta (tag - 251)) (HasLocals pool tag delta (tag - 251)) (λ f. flat_map frame_type f.locals) (IsDelta pool tag delta) delta_rest (with_locals_reads pool few tag delta (tag - 251))
+    (λ f h. locals_delta pool tag delta f high low other past is h) (λ f q. delta_locals pool tag delta f high other past is q) (λ f q. locals_spelled pool tag delta (tag - 251) f is (delta_locals pool tag delta f high other past is q)))
+    (λ end. as_reads (full_at pool tag delta) _ _ (IsDelta pool tag delta) delta_rest (full_reads pool few tag delta)
+    (λ f p. full_delta pool tag delta f high byte low other past end p.0 p.1.0 p.1.1) (λ f q. (q.2.locals, (q.2.stack, frame_is f tag delta f.locals f.stack q.0 q.1 refl refl))) (λ f q. rw (q.0, end) refl))))
 
 with_delta_reads : (pool : Pool) → IsFew pool → (tag : ℕ) → IsHigh tag → tag < 2 ^ 8 → Reads (bind u2_at (behind_delta_at pool tag)) (IsFramed pool tag) tag_rest
 unfolding IsFramed IsDelta tag_rest
 with_delta_reads pool few tag high byte =
     as_reads (bind u2_at (behind_delta_at pool tag)) (λ f. (f.delta < 2 ^ 16) × IsDelta pool tag f.delta f) (λ f. to_be_bytes w16 f.delta ++ delta_rest f) (IsFramed pool tag) tag_rest
-      (bind_reads u2_at (λ n. n < 2 ^ 16) (to_be_bytes w16) (behind_delta_at pool tag) (IsDelta pool tag) (λ delta. delta_rest) (λ f. f.delta) u2_reads (λ delta low. behind_delta_reads pool few tag delta high byte low) (λ delta f q. q.1))
-      (λ f p. (p.1.0, p.1.2)) (λ f q. (q.1.delta, (q.0, refl, q.1))) (λ f q. rw (q.0, high.item) refl)
+    (bind_reads u2_at (λ n. n < 2 ^ 16) (to_be_bytes w16) (behind_delta_at pool tag) (IsDelta pool tag) (λ delta. delta_rest) (λ f. f.delta) u2_reads (λ delta low. behind_delta_reads pool few tag delta high byte low) (λ delta f q. q.1))
+    (λ f p. (p.1.0, p.1.2)) (λ f q. (q.1.delta, (q.0, refl, q.1))) (λ f q. rw (q.0, high.item) refl)
 
 not_framed : (pool : Pool) (tag : ℕ) (f : StackFrame) → ltb tag 64 ≡ false → ltb tag 128 ≡ false → ltb tag 247 ≡ true → IsFramed pool tag f → ⊥
 unfolding IsFramed has_layout
@@ -368,15 +376,15 @@ framed_reads : (pool : Pool) → IsFew pool → (at tag : ℕ) → tag < 2 ^ 8 �
 unfolding framed_at tag_rest IsFramed
 framed_reads pool few at tag byte =
     either_reads (ltb tag 64) (λ end bytes. Ok (frame_of tag tag [] [], bytes)) (λ end bytes. cond (ltb tag 128) (with_item_at pool tag (tag - 64) end bytes) (cond (ltb tag 247) (Err (bad_tag at tag)) (bind u2_at (behind_delta_at pool tag) end bytes))) (IsFramed pool tag) tag_rest
-      (λ low. let item : ltb tag 128 ≡ true = grind (arith, nat_tests) in
-        as_reads (λ end bytes. Ok (frame_of tag tag [] [], bytes)) (λ f. f ≡ frame_of tag tag [] []) (λ f. []) (IsFramed pool tag) tag_rest (give_reads (frame_of tag tag [] []))
-          (λ f e. subst (IsFramed pool tag) (sym e) (same_framed pool tag low)) (λ f q. framed_same pool tag f low q) (λ f q. rw (framed_same pool tag f low q, item) refl))
-      (λ high. either_reads (ltb tag 128) (with_item_at pool tag (tag - 64)) (λ end bytes. cond (ltb tag 247) (Err (bad_tag at tag)) (bind u2_at (behind_delta_at pool tag) end bytes)) (IsFramed pool tag) tag_rest
-        (λ low. as_reads (with_item_at pool tag (tag - 64)) (HasItem pool tag (tag - 64)) (λ f. flat_map frame_type f.stack) (IsFramed pool tag) tag_rest (with_item_reads pool few tag (tag - 64))
-          (λ f h. item_framed pool tag f high low h) (λ f q. framed_item pool tag f high low q) (λ f q. rw (q.0, low) refl))
-        (λ item. either_reads (ltb tag 247) (λ end bytes. Err (bad_tag at tag)) (bind u2_at (behind_delta_at pool tag)) (IsFramed pool tag) tag_rest
-          (λ bad. no_reads (bad_tag at tag) (IsFramed pool tag) tag_rest (λ f q. not_framed pool tag f high item bad q))
-          (λ past. with_delta_reads pool few tag (is_high tag past) byte)))
+    (λ low. let item : ltb tag 128 ≡ true = grind (arith, nat_tests) in
+    as_reads (λ end bytes. Ok (frame_of tag tag [] [], bytes)) (λ f. f ≡ frame_of tag tag [] []) (λ f. []) (IsFramed pool tag) tag_rest (give_reads (frame_of tag tag [] []))
+    (λ f e. subst (IsFramed pool tag) (sym e) (same_framed pool tag low)) (λ f q. framed_same pool tag f low q) (λ f q. rw (framed_same pool tag f low q, item) refl))
+    (λ high. either_reads (ltb tag 128) (with_item_at pool tag (tag - 64)) (λ end bytes. cond (ltb tag 247) (Err (bad_tag at tag)) (bind u2_at (behind_delta_at pool tag) end bytes)) (IsFramed pool tag) tag_rest
+    (λ low. as_reads (with_item_at pool tag (tag - 64)) (HasItem pool tag (tag - 64)) (λ f. flat_map frame_type f.stack) (IsFramed pool tag) tag_rest (with_item_reads pool few tag (tag - 64))
+    (λ f h. item_framed pool tag f high low h) (λ f q. framed_item pool tag f high low q) (λ f q. rw (q.0, low) refl))
+    (λ item. either_reads (ltb tag 247) (λ end bytes. Err (bad_tag at tag)) (bind u2_at (behind_delta_at pool tag)) (IsFramed pool tag) tag_rest
+    (λ bad. no_reads (bad_tag at tag) (IsFramed pool tag) tag_rest (λ f q. not_framed pool tag f high item bad q))
+    (λ past. with_delta_reads pool few tag (is_high tag past) byte)))
 
 frame_tag : (pool : Pool) (f : StackFrame) → IsFrame pool f → f.tag < 2 ^ 8
 unfolding has_layout
@@ -393,6 +401,6 @@ pub frame_reads : (pool : Pool) → IsFew pool → Reads (frame_at pool) (IsFram
 unfolding frame_at IsFramed
 frame_reads pool few =
     here_reads (λ at. bind u1_at (framed_at pool at)) (IsFrame pool) frame (λ at.
-      as_reads (bind u1_at (framed_at pool at)) (λ f. (f.tag < 2 ^ 8) × IsFramed pool f.tag f) (λ f. (f.tag ∷ []) ++ tag_rest f) (IsFrame pool) frame
-        (bind_reads u1_at (λ n. n < 2 ^ 8) (λ n. n ∷ []) (framed_at pool at) (IsFramed pool) (λ tag. tag_rest) (λ f. f.tag) u1_reads (λ tag byte. framed_reads pool few at tag byte) (λ tag f q. q.0))
-        (λ f p. p.1.1) (λ f is. (frame_tag pool f is, (refl, is))) (λ f is. frame_spelling f))
+    as_reads (bind u1_at (framed_at pool at)) (λ f. (f.tag < 2 ^ 8) × IsFramed pool f.tag f) (λ f. (f.tag ∷ []) ++ tag_rest f) (IsFrame pool) frame
+    (bind_reads u1_at (λ n. n < 2 ^ 8) (λ n. n ∷ []) (framed_at pool at) (IsFramed pool) (λ tag. tag_rest) (λ f. f.tag) u1_reads (λ tag byte. framed_reads pool few at tag byte) (λ tag f q. q.0))
+    (λ f p. p.1.1) (λ f is. (frame_tag pool f is, (refl, is))) (λ f is. frame_spelling f))

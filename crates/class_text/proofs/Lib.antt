@@ -13,3 +13,4 @@ pub mod AttributeLaws
 pub mod FramedLaws
 pub mod CodeLaws
 pub mod MemberLaws
+pub mod ClassLaws

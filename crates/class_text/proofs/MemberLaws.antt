@@ -1,6 +1,6 @@
 -- What holds of the readers of fields and methods.
-use Rattle.std.proofs.Common.{◌≡◌, ℕ, ◌^◌, ◌<◌, Bool, true, false, cond, not, ◌&&◌, ◌||◌, ◌⊎◌, List, [], ◌∷◌, ◌++◌, length, codes, bytes_eq, Ok, Err, IsTrue, refl, sym, ap, subst, ◌∙◌, append_assoc, append-nil, inl, inr}
-use Rattle.std.specs.List.{list_any, AllByRecursion}
+use Rattle.std.proofs.Common.{◌≡◌, ℕ, ◌^◌, ◌<◌, Bool, true, false, cond, not, ◌||◌, ◌⊎◌, List, [], ◌∷◌, ◌++◌, length, codes, bytes_eq, Ok, Err, refl, sym, ap, ◌∙◌, append-nil, inl, inr}
+use Rattle.std.specs.List.{AllByRecursion}
 use Rattle.std.specs.Int.{w16, to_be_bytes}
 use Rattle.std.proofs.lemmas.Bool.{cases_Bool, and_parts, and_from}
 use Rattle.class_model.specs.declared.constant_pool.Pool.{Pool}
@@ -11,8 +11,7 @@ use Rattle.class_model.specs.Layers.{AttributeLayer}
 use Rattle.class_model.specs.ClassNames.{is_unqualified, is_method_name}
 use Rattle.class_model.specs.Descriptors.{is_field_descriptor, is_method_descriptor}
 use Rattle.class_model.specs.Constants.{text_at, is_some_that}
-use Rattle.class_model.specs.Annotations.{IsCounted}
-use Rattle.class_model.specs.Attributes.{in_field, in_method, is_known, is_named, attribute_name, once_each, HasForm, IsCodeAttributes, IsAttribute, IsAttributes}
+use Rattle.class_model.specs.Attributes.{in_field, in_method, HasForm, IsCodeAttributes, IsAttribute, IsAttributes}
 use Rattle.class_model.specs.Shape.{are_same, most_slots, is_code_layer, has_code, IsField, IsMethod, IsMembers}
 use Rattle.class_model.specs.Spelling as spelling
 use Rattle.class_text.specs.Reading.{code_missing}
@@ -75,21 +74,21 @@ module _ (pool : Pool) (few : IsFew pool) (before : List Member) where
   field_reads_raw : Reads (bind u2_at f1) (λ m. (m.flags < 2 ^ 16) × F1 m.flags m) (λ m. to_be_bytes w16 m.flags ++ s1 m)
   field_reads_raw =
       bind_reads u2_at (λ n. n < 2 ^ 16) (to_be_bytes w16) f1 F1 (λ flags. s1) (λ m. m.flags) u2_reads
-        (λ flags a. bind_reads (index_at (is_field_name pool)) (λ n. is_field_name pool n ≡ true) (to_be_bytes w16) (f2 flags) (F2 flags) (λ name. s2) (λ m. m.name) field_names
-          (λ name b. bind_reads (index_at (is_field_type pool before name)) (λ n. is_field_type pool before name n ≡ true) (to_be_bytes w16) (f3 flags name) (F3 flags name) (λ descriptor. s3) (λ m. m.descriptor) (field_types name)
-            (λ descriptor c. made_reads (attributes_at pool (in_field (text_of pool descriptor)) false) (IsAttributes pool (in_field (text_of pool descriptor))) (spelling.counted spelling.attribute) (member_of flags name descriptor) (λ m. m.attributes) (λ xs. refl) (plain_attributes_of pool few (in_field (text_of pool descriptor))))
-            (λ descriptor m q. ap (λ (x : Member). x.descriptor) q.1))
-          (λ name m q. ap (λ (x : Member). x.name) q.1.1))
-        (λ flags m q. ap (λ (x : Member). x.flags) q.1.1.1)
+      (λ flags a. bind_reads (index_at (is_field_name pool)) (λ n. is_field_name pool n ≡ true) (to_be_bytes w16) (f2 flags) (F2 flags) (λ name. s2) (λ m. m.name) field_names
+      (λ name b. bind_reads (index_at (is_field_type pool before name)) (λ n. is_field_type pool before name n ≡ true) (to_be_bytes w16) (f3 flags name) (F3 flags name) (λ descriptor. s3) (λ m. m.descriptor) (field_types name)
+      (λ descriptor c. made_reads (attributes_at pool (in_field (text_of pool descriptor)) false) (IsAttributes pool (in_field (text_of pool descriptor))) (spelling.counted spelling.attribute) (member_of flags name descriptor) (λ m. m.attributes) (λ xs. refl) (plain_attributes_of pool few (in_field (text_of pool descriptor))))
+      (λ descriptor m q. ap (λ (x : Member). x.descriptor) q.1))
+      (λ name m q. ap (λ (x : Member). x.name) q.1.1))
+      (λ flags m q. ap (λ (x : Member). x.flags) q.1.1.1)
 
   field_reads : Reads (field_at pool before) (λ m. IsField pool m × (is_other_member pool before m ≡ true)) spelling.member
   unfolding field_at is_field_name is_field_type is_new spelling.member is_first
   field_reads =
       as_reads (field_at pool before) (λ m. (m.flags < 2 ^ 16) × F1 m.flags m) (λ m. to_be_bytes w16 m.flags ++ s1 m) (λ m. IsField pool m × (is_other_member pool before m ≡ true)) spelling.member field_reads_raw
-        (λ m p. let both = and_parts (is_some_that is_field_descriptor (text_at pool m.descriptor)) (is_other_member pool before m) p.1.1.0 in
-          (record { flags = p.0; name = p.1.0; descriptor = both.0; attributes = p.1.1.1.0 }, both.1))
-        (λ m q. (q.0.flags, (q.0.name, (and_from (is_some_that is_field_descriptor (text_at pool m.descriptor)) (is_other_member pool before m) q.0.descriptor q.1, (q.0.attributes, refl)))))
-        (λ m q. four (to_be_bytes w16 m.flags) (to_be_bytes w16 m.name) (to_be_bytes w16 m.descriptor) (s3 m))
+      (λ m p. let both = and_parts (is_some_that is_field_descriptor (text_at pool m.descriptor)) (is_other_member pool before m) p.1.1.0 in
+      (record { flags = p.0; name = p.1.0; descriptor = both.0; attributes = p.1.1.1.0 }, both.1))
+      (λ m q. (q.0.flags, (q.0.name, (and_from (is_some_that is_field_descriptor (text_at pool m.descriptor)) (is_other_member pool before m) q.0.descriptor q.1, (q.0.attributes, refl)))))
+      (λ m q. four (to_be_bytes w16 m.flags) (to_be_bytes w16 m.name) (to_be_bytes w16 m.descriptor) (s3 m))
 
 -- ---- methods and their code
 
@@ -191,14 +190,14 @@ module _ (pool : Pool) (few : IsFew pool) (before : List Member) where
   method_reads_raw : (at : ℕ) → Reads (bind u2_at (m1 at)) (λ m. (m.flags < 2 ^ 16) × M1 m.flags m) (λ m. to_be_bytes w16 m.flags ++ t1 m)
   method_reads_raw at =
       bind_reads u2_at (λ n. n < 2 ^ 16) (to_be_bytes w16) (m1 at) M1 (λ flags. t1) (λ m. m.flags) u2_reads
-        (λ flags a. bind_reads (index_at (is_name_of_method pool)) (λ n. is_name_of_method pool n ≡ true) (to_be_bytes w16) (m2 at flags) (M2 flags) (λ name. t2) (λ m. m.name) method_names
-          (λ name b. bind_reads (index_at (is_method_type pool before flags name)) (λ n. is_method_type pool before flags name n ≡ true) (to_be_bytes w16) (m3 at flags name) (M3 flags name) (λ descriptor. t3) (λ m. m.descriptor) (method_types flags name)
-            (λ descriptor c. bind_reads (attributes_at pool in_method (is_barred flags)) (IsList flags) (spelling.counted spelling.attribute) (m4 at flags name descriptor) (M4 flags name descriptor) (λ found m. []) (λ m. m.attributes) (attributes_of pool few in_method (is_barred flags))
-              (λ found d. unless_reads (is_barred flags || has_code found) (code_missing at) (λ end bytes. Ok (member_of flags name descriptor found, bytes)) (λ m. m ≡ member_of flags name descriptor found) (λ m. []) (λ y. give_reads (member_of flags name descriptor found)))
-              (λ found m q. ap (λ (x : Member). x.attributes) q.1))
-            (λ descriptor m q. ap (λ (x : Member). x.descriptor) q.1.1))
-          (λ name m q. ap (λ (x : Member). x.name) q.1.1.1))
-        (λ flags m q. ap (λ (x : Member). x.flags) q.1.1.1.1)
+      (λ flags a. bind_reads (index_at (is_name_of_method pool)) (λ n. is_name_of_method pool n ≡ true) (to_be_bytes w16) (m2 at flags) (M2 flags) (λ name. t2) (λ m. m.name) method_names
+      (λ name b. bind_reads (index_at (is_method_type pool before flags name)) (λ n. is_method_type pool before flags name n ≡ true) (to_be_bytes w16) (m3 at flags name) (M3 flags name) (λ descriptor. t3) (λ m. m.descriptor) (method_types flags name)
+      (λ descriptor c. bind_reads (attributes_at pool in_method (is_barred flags)) (IsList flags) (spelling.counted spelling.attribute) (m4 at flags name descriptor) (M4 flags name descriptor) (λ found m. []) (λ m. m.attributes) (attributes_of pool few in_method (is_barred flags))
+      (λ found d. unless_reads (is_barred flags || has_code found) (code_missing at) (λ end bytes. Ok (member_of flags name descriptor found, bytes)) (λ m. m ≡ member_of flags name descriptor found) (λ m. []) (λ y. give_reads (member_of flags name descriptor found)))
+      (λ found m q. ap (λ (x : Member). x.attributes) q.1))
+      (λ descriptor m q. ap (λ (x : Member). x.descriptor) q.1.1))
+      (λ name m q. ap (λ (x : Member). x.name) q.1.1.1))
+      (λ flags m q. ap (λ (x : Member). x.flags) q.1.1.1.1)
 
   method_spelled : (a b c d : List ℕ) → a ++ (b ++ (c ++ (d ++ []))) ≡ ((a ++ b) ++ c) ++ d
   method_spelled a b c d = ap (λ (l : List ℕ). a ++ (b ++ (c ++ l))) (append-nil d) ∙ four a b c d
@@ -207,13 +206,13 @@ module _ (pool : Pool) (few : IsFew pool) (before : List Member) where
   unfolding method_at is_name_of_method is_method_type is_new spelling.member is_first
   method_reads =
       here_reads (λ at. bind u2_at (m1 at)) (λ m. IsMethod pool m × (is_other_member pool before m ≡ true)) spelling.member (λ at.
-        as_reads (bind u2_at (m1 at)) (λ m. (m.flags < 2 ^ 16) × M1 m.flags m) (λ m. to_be_bytes w16 m.flags ++ t1 m) (λ m. IsMethod pool m × (is_other_member pool before m ≡ true)) spelling.member (method_reads_raw at)
-          (λ m p. let both = and_parts (is_some_that (is_method_descriptor (most_slots m.flags)) (text_at pool m.descriptor)) (is_other_member pool before m) p.1.1.0 in
-            let listed = p.1.1.1.0 in
-            (record { flags = p.0; name = p.1.0; descriptor = both.0; attributes = listed.0; code = has_its_code pool few (is_barred m.flags) m.attributes listed.0.each.1 listed.1 p.1.1.1.1.0 }, both.1))
-          (λ m q. let code = its_code_unbarred pool few (is_barred m.flags) m.attributes q.0.attributes.each.1 q.0.code in
-            (q.0.flags, (q.0.name, (and_from (is_some_that (is_method_descriptor (most_slots m.flags)) (text_at pool m.descriptor)) (is_other_member pool before m) q.0.descriptor q.1, ((q.0.attributes, code.0), (code.1, refl))))))
-          (λ m q. method_spelled (to_be_bytes w16 m.flags) (to_be_bytes w16 m.name) (to_be_bytes w16 m.descriptor) (spelling.counted spelling.attribute m.attributes)))
+      as_reads (bind u2_at (m1 at)) (λ m. (m.flags < 2 ^ 16) × M1 m.flags m) (λ m. to_be_bytes w16 m.flags ++ t1 m) (λ m. IsMethod pool m × (is_other_member pool before m ≡ true)) spelling.member (method_reads_raw at)
+      (λ m p. let both = and_parts (is_some_that (is_method_descriptor (most_slots m.flags)) (text_at pool m.descriptor)) (is_other_member pool before m) p.1.1.0 in
+      let listed = p.1.1.1.0 in
+      (record { flags = p.0; name = p.1.0; descriptor = both.0; attributes = listed.0; code = has_its_code pool few (is_barred m.flags) m.attributes listed.0.each.1 listed.1 p.1.1.1.1.0 }, both.1))
+      (λ m q. let code = its_code_unbarred pool few (is_barred m.flags) m.attributes q.0.attributes.each.1 q.0.code in
+      (q.0.flags, (q.0.name, (and_from (is_some_that (is_method_descriptor (most_slots m.flags)) (text_at pool m.descriptor)) (is_other_member pool before m) q.0.descriptor q.1, ((q.0.attributes, code.0), (code.1, refl))))))
+      (λ m q. method_spelled (to_be_bytes w16 m.flags) (to_be_bytes w16 m.name) (to_be_bytes w16 m.descriptor) (spelling.counted spelling.attribute m.attributes)))
 
 -- ---- counted members
 
@@ -221,10 +220,10 @@ members_reads : (pool : Pool) (one : List Member → Reader Member) (Each : Memb
     → Reads (counted_after one) (IsMembers Each pool) (spelling.counted spelling.member)
 members_reads pool one Each r =
     as_reads (counted_after one) (λ ms. (length ms < 2 ^ 16) × AllAfter (λ b m. Each m × (is_other_member pool b m ≡ true)) [] ms) (spelling.counted spelling.member) (IsMembers Each pool) (spelling.counted spelling.member)
-      (counted_reads one (λ b m. Each m × (is_other_member pool b m ≡ true)) spelling.member r)
-      (λ ms p. let parts = all_split Each (λ b m. is_other_member pool b m ≡ true) [] ms p.1 in record { each = (p.0, parts.0); once = (once_from (λ m. true) (are_same pool) [] ms parts.1).0 })
-      (λ ms q. (q.each.0, all_joined Each (λ b m. is_other_member pool b m ≡ true) [] ms q.each.1 (once_after (λ m. true) (are_same pool) [] ms q.once tt)))
-      (λ ms q. refl)
+    (counted_reads one (λ b m. Each m × (is_other_member pool b m ≡ true)) spelling.member r)
+    (λ ms p. let parts = all_split Each (λ b m. is_other_member pool b m ≡ true) [] ms p.1 in record { each = (p.0, parts.0); once = (once_from (λ m. true) (are_same pool) [] ms parts.1).0 })
+    (λ ms q. (q.each.0, all_joined Each (λ b m. is_other_member pool b m ≡ true) [] ms q.each.1 (once_after (λ m. true) (are_same pool) [] ms q.once tt)))
+    (λ ms q. refl)
 
 pub fields_read : (pool : Pool) → IsFew pool → Reads (counted_after (field_at pool)) (IsMembers (IsField pool) pool) (spelling.counted spelling.member)
 fields_read pool few = members_reads pool (field_at pool) (IsField pool) (field_reads pool few)

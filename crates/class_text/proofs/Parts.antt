@@ -152,7 +152,7 @@ counted_reads one P s r =
 pub each_counted : {A : Type 0} (one : Reader A) (P : A → Type 0) (s : A → List ℕ) → Reads one P s → Reads (counted_at one) (IsCounted P) (counted s)
 each_counted one P s r =
     as_reads (counted_at one) (λ xs. (length xs < 2 ^ 16) × AllAfter (λ before. P) [] xs) (counted s) (IsCounted P) (counted s) (counted_reads (λ before. one) (λ before. P) s (λ before. r))
-      (λ xs p. (p.0, all_each P [] xs p.1)) (λ xs p. (p.0, all_after P [] xs p.1)) (λ xs p. refl)
+    (λ xs p. (p.0, all_each P [] xs p.1)) (λ xs p. (p.0, all_after P [] xs p.1)) (λ xs p. refl)
 
 -- ---- runs
 
@@ -176,7 +176,7 @@ run_reads len = record {
       | inr g ↦ (let long : len ≤ length bytes = ltb-false (length bytes) len g in
           let same = ok_is (take len bytes, drop len bytes) (run, rest) (rw g at e) in
           subst (λ (p : List ℕ × List ℕ). ((length p.0 ≡ len) × IsBytes p.0) × Takes bytes p.0 p.1) same
-            ((omega (arith, length-take len bytes), IsBytes-take len bytes are), record { parts = sym (take-append-drop len bytes); rest_fits = IsBytes-drop len bytes are }))
+          ((omega (arith, length-take len bytes), IsBytes-take len bytes are), record { parts = sym (take-append-drop len bytes); rest_fits = IsBytes-drop len bytes are }))
     ]
 
     never : (end : ℕ) (bytes more : List ℕ) (f : Fault) → is_cut f ≡ false → run_at len end bytes ≡ Err f → run_at len (end + length more) (bytes ++ more) ≡ Err f

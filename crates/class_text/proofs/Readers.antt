@@ -141,8 +141,8 @@ pub made_reads : {A B : Type 0} (read : Reader A) (P : A → Type 0) (s : A → 
     → Reads (bind read (λ x end bytes. Ok (make x, bytes))) (λ y. P (back y) × (y ≡ make (back y))) (λ y. s (back y))
 made_reads {A = A} read P s make back known r =
     as_reads (bind read (λ x end bytes. Ok (make x, bytes))) _ _ (λ y. P (back y) × (y ≡ make (back y))) (λ y. s (back y))
-      (bind_reads read P s (λ x end bytes. Ok (make x, bytes)) (λ x y. y ≡ make x) (λ x y. []) back r (λ x p. give_reads (make x)) (λ x y q. ap back q ∙ known x))
-      (λ y p. p) (λ y p. p) (λ y p. append-nil (s (back y)))
+    (bind_reads read P s (λ x end bytes. Ok (make x, bytes)) (λ x y. y ≡ make x) (λ x y. []) back r (λ x p. give_reads (make x)) (λ x y q. ap back q ∙ known x))
+    (λ y p. p) (λ y p. p) (λ y p. append-nil (s (back y)))
 
 -- What is made of a part is one level of a value; `out` opens it.
 pub layer_reads : {A E L : Type 0} (roll : L → E) (out : E → L) → ((l : L) → out (roll l) ≡ l) → ((e : E) → roll (out e) ≡ e)
@@ -151,10 +151,10 @@ pub layer_reads : {A E L : Type 0} (roll : L → E) (out : E → L) → ((l : L)
     → Reads (bind read (λ x end bytes. Ok (roll (make x), bytes))) (λ e. Q (out e)) (λ e. t (out e))
 layer_reads roll out out_roll roll_out read P s make back known Q t r on from same =
     as_reads (bind read (λ x end bytes. Ok (roll (make x), bytes))) (λ e. P (back (out e)) × (e ≡ roll (make (back (out e))))) (λ e. s (back (out e))) (λ e. Q (out e)) (λ e. t (out e))
-      (made_reads read P s (λ x. roll (make x)) (λ e. back (out e)) (λ x. ap back (out_roll (make x)) ∙ known x) r)
-      (λ e p. let opened = ap out p.1 ∙ out_roll (make (back (out e))) in subst Q (sym opened) (on (back (out e)) p.0))
-      (λ e q. let b = from (out e) q in (b.0, sym (roll_out e) ∙ ap roll b.1))
-      (λ e q. let b = from (out e) q in same (back (out e)) b.0 ∙ ap t (sym b.1))
+    (made_reads read P s (λ x. roll (make x)) (λ e. back (out e)) (λ x. ap back (out_roll (make x)) ∙ known x) r)
+    (λ e p. let opened = ap out p.1 ∙ out_roll (make (back (out e))) in subst Q (sym opened) (on (back (out e)) p.0))
+    (λ e q. let b = from (out e) q in (b.0, sym (roll_out e) ∙ ap roll b.1))
+    (λ e q. let b = from (out e) q in same (back (out e)) b.0 ∙ ap t (sym b.1))
 
 -- ---- where the bytes are all there is
 

@@ -1,5 +1,5 @@
 -- Reading attributes (JVMS 4.7).
-use Rattle.std.specs.Prelude.{ℕ, Bool, true, false, not, ◌&&◌, ◌||◌, ◌==◌, nat_lt, nat_le, List, [], ◌∷◌, map, codes, bytes_eq, unwrap_or, Ok, Err, if◌then◌else◌}
+use Rattle.std.specs.Prelude.{ℕ, Bool, false, not, ◌&&◌, ◌||◌, ◌==◌, nat_lt, nat_le, List, [], map, codes, bytes_eq, unwrap_or, Ok, Err, if◌then◌else◌}
 use Rattle.std.specs.List.{list_any}
 use Rattle.class_model.specs.declared.constant_pool.Pool.{Pool}
 use Rattle.class_model.specs.declared.attribute_forms.Attribute.{Attribute, roll-Attribute}
@@ -9,7 +9,7 @@ use Rattle.class_model.specs.declared.attribute_forms.Bootstrap.{Bootstrap}
 use Rattle.class_model.specs.Constants.{constant_at, text_at, is_some_that}
 use Rattle.class_model.specs.Attributes.{Place, in_class, in_field, in_method, in_code, is_known, is_value_for, is_loadable, is_handle, attribute_name}
 use Rattle.class_text.specs.Reading.{bad_attribute, second_attribute, ◌>>=◌, place}
-use Rattle.class_text.specs.Readers.{Reader, u2_at, u4_at, index_at, many_after, counted_at, counted_after, run_at, within}
+use Rattle.class_text.specs.Readers.{Reader, u2_at, u4_at, index_at, counted_at, counted_after, run_at, within}
 use Rattle.class_text.specs.Frames.{is_class, frame_at}
 use Rattle.class_text.specs.Elements.{is_text, note_at}
 
@@ -88,10 +88,10 @@ unfoldable pub attribute_by : (ℕ → ℕ → Reader Attribute) → Pool → Pl
 attribute_by content pool stand barred before end bytes =
     index_at (is_text pool) end bytes
     >>= (λ name.
-      if is_first (is_known stand) bytes_eq (map (attribute_name pool) before) (text_of pool name.0) then
-        if barred && bytes_eq (codes "Code") (text_of pool name.0) then Err (bad_attribute (place end bytes))
-        else u4_at end name.1 >>= (λ len. within (place end bytes) len.0 (content name.0 (place end bytes)) end len.1)
-      else Err (second_attribute (place end bytes)))
+    if is_first (is_known stand) bytes_eq (map (attribute_name pool) before) (text_of pool name.0) then
+    if barred && bytes_eq (codes "Code") (text_of pool name.0) then Err (bad_attribute (place end bytes))
+    else u4_at end name.1 >>= (λ len. within (place end bytes) len.0 (content name.0 (place end bytes)) end len.1)
+    else Err (second_attribute (place end bytes)))
 
 -- the attributes of code
 unfoldable pub code_attribute_at : Pool → List Attribute → Reader Attribute

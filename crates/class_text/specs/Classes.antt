@@ -55,9 +55,9 @@ method_at pool before end bytes =
     >>= (λ name. index_at (is_method_type pool before flags.0 name.0) end name.1
     >>= (λ descriptor. attributes_at pool in_method (is_barred flags.0) end descriptor.1
     >>= (λ found.
-      if is_barred flags.0 || has_code found.0 then
-        Ok (record { flags = flags.0; name = name.0; descriptor = descriptor.0; attributes = found.0 }, found.1)
-      else Err (code_missing (place end bytes))))))
+    if is_barred flags.0 || has_code found.0 then
+    Ok (record { flags = flags.0; name = name.0; descriptor = descriptor.0; attributes = found.0 }, found.1)
+    else Err (code_missing (place end bytes))))))
 
 -- the class above a class of a number; none above `java/lang/Object` alone
 unfoldable pub is_super : Pool → ℕ → ℕ → Bool
@@ -82,18 +82,21 @@ behind_pool_at minor major pool end bytes =
     >>= (λ interfaces. counted_after (field_at pool) end interfaces.1
     >>= (λ fields. counted_after (method_at pool) end fields.1
     >>= (λ methods. attributes_at pool in_class false end methods.1
-    >>= (λ found. Ok (record {
-      minor = minor;
-      major = major;
-      pool = pool;
-      flags = flags.0;
-      this_class = this.0;
-      super_class = super_class.0;
-      interfaces = interfaces.0;
-      fields = fields.0;
-      methods = methods.0;
-      attributes = found.0;
-    }, found.1))))))))
+    >>= (λ found. Ok (
+      record {
+        minor = minor;
+        major = major;
+        pool = pool;
+        flags = flags.0;
+        this_class = this.0;
+        super_class = super_class.0;
+        interfaces = interfaces.0;
+        fields = fields.0;
+        methods = methods.0;
+        attributes = found.0;
+      },
+      found.1,
+    ))))))))
 
 unfoldable pub class_at_front : Reader Class
 class_at_front end bytes =
