@@ -1,5 +1,5 @@
 -- What holds of the readers of attributes behind their name and length, and of lists of them.
-use Rattle.std.proofs.Common.{◌≡◌, ℕ, ◌^◌, ◌<◌, Bool, true, false, cond, ◌&&◌, List, [], ◌∷◌, ◌++◌, length, map, codes, bytes_eq, Err, refl, sym, append_assoc}
+use Rattle.std.proofs.Common.{◌≡◌, ℕ, ◌^◌, ◌<◌, Bool, true, false, cond, ◌&&◌, List, [], ◌∷◌, ◌++◌, length, map, codes, bytes_eq, Ok, Err, refl, sym, append_assoc, append-nil}
 use Rattle.std.specs.List.{AllByRecursion}
 use Rattle.std.specs.Int.{w16, w32, to_be_bytes}
 use Rattle.class_model.specs.declared.constant_pool.Pool.{Pool}
@@ -9,8 +9,8 @@ use Rattle.class_model.specs.Spelling as spelling
 use Rattle.class_text.specs.Reading.{bad_attribute, second_attribute}
 use Rattle.class_text.specs.Readers.{Reader, u4_at, index_at, counted_after, within}
 use Rattle.class_text.specs.Elements.{is_text}
-use Rattle.class_text.specs.Attributes.{text_of, is_first, attribute_by}
-use Rattle.class_text.proofs.Readers.{Reads, ReadsAll, as_reads, bind, bind_reads, unless_reads, except_reads, here_reads}
+use Rattle.class_text.specs.Attributes.{text_of, is_first, named_at, attribute_by}
+use Rattle.class_text.proofs.Readers.{Reads, ReadsAll, as_reads, give_reads, bind, bind_reads, unless_reads, except_reads, here_reads}
 use Rattle.class_text.proofs.Parts.{u4_reads, counted_reads, within_reads, AllAfter, all_split, all_joined, all_as, all_mapped, all_unmapped}
 use Rattle.class_text.proofs.Once.{once_from, once_after}
 use Rattle.class_text.proofs.Numbered.{IsFew}
@@ -49,30 +49,40 @@ module _ (pool : Pool) (few : IsFew pool) (stand : Place) (barred : Bool) (conte
       bind_reads u4_at (λ len. len < 2 ^ 32) (to_be_bytes w32) (λ len. within at len (content n at)) (λ len a. ((name a ≡ n) × Form a) × (length (s a) ≡ len)) (λ len. s) (λ a. length (s a))
       u4_reads (λ len low. within_reads at len (content n at) (λ a. (name a ≡ n) × Form a) s (contents n at named)) (λ len a q. q.1)
 
-  behind_name : List Attribute → ℕ → ℕ → Reader Attribute
-  behind_name before at n end bytes =
+  IsNew : List Attribute → ℕ → Type 0
+  IsNew before n = (is_text pool n ≡ true) × ((is_first (is_known stand) bytes_eq (map (attribute_name pool) before) (text_of pool n) ≡ true) × ((barred && bytes_eq (codes "Code") (text_of pool n)) ≡ false))
+
+  judged : List Attribute → ℕ → ℕ → Reader ℕ
+  judged before at n end bytes =
       cond (is_first (is_known stand) bytes_eq (map (attribute_name pool) before) (text_of pool n))
-      (cond (barred && bytes_eq (codes "Code") (text_of pool n)) (Err (bad_attribute at)) (sized n at end bytes))
-      (Err (second_attribute at))
+        (cond (barred && bytes_eq (codes "Code") (text_of pool n)) (Err (bad_attribute at)) (Ok (n, bytes)))
+        (Err (second_attribute at))
 
-  IsBehind : List Attribute → ℕ → Attribute → Type 0
-  IsBehind before n a = (is_first (is_known stand) bytes_eq (map (attribute_name pool) before) (text_of pool n) ≡ true) × (((barred && bytes_eq (codes "Code") (text_of pool n)) ≡ false) × ((length (s a) < 2 ^ 32) × (((name a ≡ n) × Form a) × (length (s a) ≡ length (s a)))))
+  judged_reads : (before : List Attribute) (at n : ℕ) → Reads (judged before at n) (λ m. (is_first (is_known stand) bytes_eq (map (attribute_name pool) before) (text_of pool n) ≡ true) × (((barred && bytes_eq (codes "Code") (text_of pool n)) ≡ false) × (m ≡ n))) (λ m. [])
+  unfolding judged
+  judged_reads before at n =
+      unless_reads (is_first (is_known stand) bytes_eq (map (attribute_name pool) before) (text_of pool n)) (second_attribute at) (λ end bytes. cond (barred && bytes_eq (codes "Code") (text_of pool n)) (Err (bad_attribute at)) (Ok (n, bytes))) _ _
+        (λ first. except_reads (barred && bytes_eq (codes "Code") (text_of pool n)) (bad_attribute at) (λ end bytes. Ok (n, bytes)) (λ m. m ≡ n) (λ m. []) (λ plain. give_reads n))
 
-  behind_reads : (before : List Attribute) (at n : ℕ) → is_text pool n ≡ true → Reads (behind_name before at n) (IsBehind before n) (λ a. to_be_bytes w32 (length (s a)) ++ s a)
-  unfolding behind_name IsBehind
-  behind_reads before at n named =
-      unless_reads (is_first (is_known stand) bytes_eq (map (attribute_name pool) before) (text_of pool n)) (second_attribute at) (λ end bytes. cond (barred && bytes_eq (codes "Code") (text_of pool n)) (Err (bad_attribute at)) (sized n at end bytes)) _ _
-      (λ first. except_reads (barred && bytes_eq (codes "Code") (text_of pool n)) (bad_attribute at) (sized n at) _ _ (λ plain. sized_reads n at named))
+  named_reads : (before : List Attribute) → Reads (named_at pool stand barred before) (IsNew before) (to_be_bytes w16)
+  unfolding named_at judged IsNew
+  named_reads before =
+      here_reads (λ at. bind (index_at (is_text pool)) (judged before at)) (IsNew before) (to_be_bytes w16) (λ at.
+        as_reads (bind (index_at (is_text pool)) (judged before at)) _ _ (IsNew before) (to_be_bytes w16)
+          (bind_reads (index_at (is_text pool)) (λ n. is_text pool n ≡ true) (to_be_bytes w16) (judged before at) (λ n m. (is_first (is_known stand) bytes_eq (map (attribute_name pool) before) (text_of pool n) ≡ true) × (((barred && bytes_eq (codes "Code") (text_of pool n)) ≡ false) × (m ≡ n))) (λ n m. []) (λ m. m)
+            (text_reads pool few) (λ n named. judged_reads before at n) (λ n m q. q.1.1))
+          (λ n p. (p.0, (p.1.0, p.1.1.0))) (λ n q. (q.0, (q.1.0, (q.1.1, refl)))) (λ n q. append-nil (to_be_bytes w16 n)))
 
   pub attribute_reads : (before : List Attribute) → Reads (attribute_by content pool stand barred before) (λ a. IsOne a × IsBeside before a) framed
-  unfolding attribute_by IsBehind sized behind_name
+  unfolding attribute_by sized IsNew is_first
   attribute_reads before =
-      here_reads (λ at. bind (index_at (is_text pool)) (behind_name before at)) (λ a. IsOne a × IsBeside before a) framed (λ at.
-      as_reads (bind (index_at (is_text pool)) (behind_name before at)) (λ a. (is_text pool (name a) ≡ true) × IsBehind before (name a) a) (λ a. to_be_bytes w16 (name a) ++ (to_be_bytes w32 (length (s a)) ++ s a)) (λ a. IsOne a × IsBeside before a) framed
-      (bind_reads (index_at (is_text pool)) (λ n. is_text pool n ≡ true) (to_be_bytes w16) (behind_name before at) (IsBehind before) (λ n a. to_be_bytes w32 (length (s a)) ++ s a) name (text_reads pool few) (λ n named. behind_reads before at n named) (λ n a q. q.1.1.1.0.0))
-      (λ a p. ((p.1.1.1.1.0.1, p.1.1.1.0), (p.1.0, p.1.1.0)))
-      (λ a q. (has_name a q.0.0, (q.1.0, (q.1.1, (q.0.1, ((refl, q.0.0), refl))))))
-      (λ a q. sym (append_assoc (to_be_bytes w16 (name a)) (to_be_bytes w32 (length (s a))) (s a))))
+      here_reads (λ at. bind (named_at pool stand barred before) (λ n. sized n at)) (λ a. IsOne a × IsBeside before a) framed (λ at.
+        as_reads (bind (named_at pool stand barred before) (λ n. sized n at)) (λ a. IsNew before (name a) × ((length (s a) < 2 ^ 32) × (((name a ≡ name a) × Form a) × (length (s a) ≡ length (s a))))) (λ a. to_be_bytes w16 (name a) ++ (to_be_bytes w32 (length (s a)) ++ s a)) (λ a. IsOne a × IsBeside before a) framed
+          (bind_reads (named_at pool stand barred before) (IsNew before) (to_be_bytes w16) (λ n. sized n at) (λ n a. (length (s a) < 2 ^ 32) × (((name a ≡ n) × Form a) × (length (s a) ≡ length (s a)))) (λ n a. to_be_bytes w32 (length (s a)) ++ s a) name
+            (named_reads before) (λ n new. sized_reads n at new.0) (λ n a q. q.1.0.0))
+          (λ a p. ((p.1.1.0.1, p.1.0), (p.0.1.0, p.0.1.1)))
+          (λ a q. ((has_name a q.0.0, (q.1.0, q.1.1)), (q.0.1, ((refl, q.0.0), refl))))
+          (λ a q. sym (append_assoc (to_be_bytes w16 (name a)) (to_be_bytes w32 (length (s a))) (s a))))
 
   -- counted attributes, where `Each` says of an attribute what `Form` and the length do
   pub attributes_read : (Each : Attribute → Type 0) → ((a : Attribute) → IsOne a → Each a) → ((a : Attribute) → Each a → IsOne a) → (spell : Attribute → List ℕ) → ((a : Attribute) → framed a ≡ spell a)

@@ -82,16 +82,22 @@ code_content_at pool name at end bytes =
 
 -- ---- an attribute
 
--- An attribute may be one of a known name only where none of this name stands before it, and none of code where code is
--- barred. Both are looked at before its length.
-unfoldable pub attribute_by : (ℕ → ℕ → Reader Attribute) → Pool → Place → Bool → List Attribute → Reader Attribute
-attribute_by content pool stand barred before end bytes =
+-- The name of an attribute. It may be a known one only where none of this name stands before it, and that of code only
+-- where code isn't barred.
+unfoldable pub named_at : Pool → Place → Bool → List Attribute → Reader ℕ
+named_at pool stand barred before end bytes =
     index_at (is_text pool) end bytes
     >>= (λ name.
-    if is_first (is_known stand) bytes_eq (map (attribute_name pool) before) (text_of pool name.0) then
-    if barred && bytes_eq (codes "Code") (text_of pool name.0) then Err (bad_attribute (place end bytes))
-    else u4_at end name.1 >>= (λ len. within (place end bytes) len.0 (content name.0 (place end bytes)) end len.1)
-    else Err (second_attribute (place end bytes)))
+      if is_first (is_known stand) bytes_eq (map (attribute_name pool) before) (text_of pool name.0) then
+        if barred && bytes_eq (codes "Code") (text_of pool name.0) then Err (bad_attribute (place end bytes)) else Ok name
+      else Err (second_attribute (place end bytes)))
+
+-- an attribute, whose content is read by its name and the place where the attribute stands
+unfoldable pub attribute_by : (ℕ → ℕ → Reader Attribute) → Pool → Place → Bool → List Attribute → Reader Attribute
+attribute_by content pool stand barred before end bytes =
+    named_at pool stand barred before end bytes
+    >>= (λ name. u4_at end name.1
+    >>= (λ len. within (place end bytes) len.0 (content name.0 (place end bytes)) end len.1))
 
 -- the attributes of code
 unfoldable pub code_attribute_at : Pool → List Attribute → Reader Attribute
