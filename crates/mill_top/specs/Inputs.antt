@@ -6,7 +6,8 @@ use Rattle.sha2.specs.Sha256.{sha256}
 use Rattle.io_traits.specs.Files.{Files}
 use Rattle.tree_value.specs.Nets.{net}
 use Rattle.mill_top.specs.declared.recorded.Record.{Record}
-use Rattle.mill_top.specs.Builds.{class_files, task_in}
+use Rattle.mill_top.specs.Builds.{class_files}
+use Rattle.mill_top.specs.Graphs.{task_in}
 
 -- the texts of a list, each as a net
 abbrev pub nets : List (List ℕ) → List ℕ

@@ -1,6 +1,9 @@
 pub mod SmallFiles
+pub mod LinkedFiles
 pub mod Words
 pub mod Builds
+pub mod Graphs
+pub mod Tables
 pub mod Scratch
 pub mod Inputs
 pub mod Entries

@@ -1,12 +1,13 @@
 //! The class files of a workspace.
 
-ghost use Rattle.std.specs.Prelude.{◌≡◌, ◌&&◌, not, List, ℕ, Some, None, IfOk, IfErr, OnOk, slice_get};
+ghost use Rattle.std.specs.Prelude.{◌≡◌, ◌&&◌, not, IfOk};
 ghost use Rattle.std.specs.Option.{option_copied};
 ghost use Rattle.std.specs.Str.{bytes_eq};
-ghost use Rattle.mill_top.specs.SmallFiles.{small_of};
-ghost use Rattle.mill_top.specs.Builds.{is_class_path, class_files, class_path, is_in_place, first_out_of_place, not_built, if_has, task_in};
+ghost use Rattle.mill_top.specs.Builds.{task_file_of, is_class_path, class_path, is_in_place, first_out_of_place};
+ghost use Rattle.mill_top.specs.Graphs.{task_files};
 
-use crate::class_file::SmallFile;
+use crate::task_file::TaskFile;
+use std::alloc::{AllocError, Global};
 use tree_value::{Bytes, Path};
 
 /// Whether the file at the path is a class file of the build.
@@ -25,67 +26,37 @@ fn is_class_path_of(path: &[u8], class: u8) -> bool
     .as_slice()
 }
 
-fn is_in_place(path: &[u8], file: Option<SmallFile>) -> bool
+fn is_in_place(path: &[u8], file: Option<TaskFile>) -> bool
     ensures { result ≡ is_in_place path.now file }
 {
     match file {
-        Some(class_file) => is_class_path_of(path, class_file.class),
+        Some(file) => is_class_path_of(path, file.class),
         None => false,
     }
 }
 
 fn is_out_of_place(file: &(Path, Bytes)) -> bool
-    ensures { result ≡ (is_class_path file.now.0 && not (is_in_place file.now.0 (small_of file.now.1))) }
+    ensures { result ≡ (is_class_path file.now.0 && not (is_in_place file.now.0 (task_file_of file.now.1))) }
 {
     let path = file.0.as_slice();
-    is_class_path(path) && !is_in_place(path, SmallFile::read(file.1.as_slice()))
+    is_class_path(path) && !is_in_place(path, TaskFile::read(file.1.as_slice()))
 }
 
-fn first_out_of_place(files: &[(Path, Bytes)]) -> Option<&(Path, Bytes)>
+/// The first class file that is neither small nor linked, or isn't the one of its class.
+pub fn first_out_of_place(files: &[(Path, Bytes)]) -> Option<&(Path, Bytes)>
     ensures { option_copied result ≡ first_out_of_place files.now }
 {
     files.iter().find(|file| is_out_of_place(file))
 }
 
-// The first two class files.
-fn first_two(files: &[(Path, Bytes)]) -> (Option<&(Path, Bytes)>, Option<&(Path, Bytes)>)
-    ensures first { option_copied result.0 ≡ slice_get (class_files files.now) 0 }
-    ensures second { option_copied result.1 ≡ slice_get (class_files files.now) 1 }
+/// The task of each class file.
+#[tactic(auto, unfolding(crate::specs::Graphs::task_files))]
+pub fn task_files(alloc: Global, files: &[(Path, Bytes)]) -> Result<Vec<TaskFile>, AllocError>
+    ensures { IfOk result (λ tasks. tasks.items ≡ task_files files.now) }
 {
-    let mut first = None;
-    for file in files {
-        if is_class_path(file.0.as_slice()) {
-            if first.is_some() {
-                return (first, Some(file));
-            }
-            first = Some(file);
-        }
-    }
-    (first, None)
-}
-
-/// The one small file of a build, if it has a class file, or else the path for which the files are no build yet.
-pub fn build(files: &[(Path, Bytes)]) -> Result<Option<SmallFile>, &Path>
-    ensures err { IfErr result (λ path. not_built files.now ≡ Some path.now) }
-    ensures build { OnOk result (not_built files.now ≡ None) }
-    ensures tasks { IfOk result (λ file. (task : List ℕ) → task_in files.now task ≡ if_has task file) }
-{
-    if let Some(file) = first_out_of_place(files) {
-        return Err(&file.0);
-    }
-    match first_two(files) {
-        (_, Some(second)) => Err(&second.0),
-        (Some(first), None) => Ok(SmallFile::read(first.1.as_slice())),
-        (None, None) => Ok(None),
-    }
-}
-
-/// The small file, where the task is its own.
-pub fn if_has(task: &[u8], file: Option<SmallFile>) -> Option<SmallFile>
-    ensures { result ≡ if_has task.now file }
-{
-    match file {
-        Some(class_file) if task == [class_file.task].as_slice() => Some(class_file),
-        _ => None,
-    }
+    files
+        .iter()
+        .filter(|file| is_class_path(file.0.as_slice()))
+        .filter_map(|file| TaskFile::read(file.1.as_slice()))
+        .collect(alloc)
 }

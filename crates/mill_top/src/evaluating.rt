@@ -6,14 +6,14 @@ ghost use Rattle.io_traits.specs.Causes.{HasCause};
 ghost use Rattle.io_traits.specs.Files.{get, put_in, LeftByPut};
 ghost use Rattle.mill_top.specs.declared.entry.Entry.{Entry};
 ghost use Rattle.mill_top.specs.declared.takes.Found.{Found};
-ghost use Rattle.mill_top.specs.Builds.{task_in, not_built};
+ghost use Rattle.mill_top.specs.Graphs.{task_in, refusal_of_build};
 ghost use Rattle.mill_top.specs.Entries.{entry_name, log_name, IsFound, IsNamed, IsWellFormed};
 ghost use Rattle.mill_top.specs.Inputs.{input_hash, IsDigested};
-ghost use Rattle.mill_top.specs.SmallFiles.{constant};
+ghost use Rattle.mill_top.specs.TaskFiles.{constant};
 ghost use Rattle.mill_top.specs.Answers.{IsAnswer, IsEvaluation, IsReuse, IsKeptRun, IsRun, IsTake};
 ghost use Rattle.tree_value.specs.Paths.{IsPath};
 
-use crate::class_file::SmallFile;
+use crate::task_file::TaskFile;
 use crate::entry::Entry;
 use crate::inputs::input_hash;
 use crate::outcome::{Outcome, run};
@@ -118,7 +118,7 @@ fn file_name(alloc: Global, task: &Text, ending: &[u8]) -> Result<Path, CopyFaul
 fn prepare(
     alloc: Global,
     inputs: &Record,
-    class_file: SmallFile,
+    class_file: TaskFile,
     task: &Text,
 ) -> Result<Job, CopyFault>
     requires { task_in inputs.now.files task.now ≡ Some class_file }
@@ -172,12 +172,12 @@ fn keep<S: Store>(alloc: Global, job: &Job, value: i32, log: &Bytes, store: &mut
 fn run_task<S: Store>(
     alloc: Global,
     job: &Job,
-    class_file: SmallFile,
+    class_file: TaskFile,
     found: Found,
     store: &mut S,
 ) -> Taken
     requires { IsNamed job.now.task job.now.entry job.now.log }
-    ensures taken { IsRun job.now.task job.now.input found (Outcome.Returns (constant class_file.opcode) []) (S.faults store.old) (S.faults store.new) (S.content store.old) (S.content store.new) result.reply result.takes }
+    ensures taken { IsRun job.now.task job.now.input found (Outcome.Returns (result_of class_file.body None) []) (S.faults store.old) (S.faults store.new) (S.content store.old) (S.content store.new) result.reply result.takes }
     ensures kept { S.kept store.new ≡ S.kept store.old }
 {
     match one_take(alloc, &job.task, found) {
@@ -199,10 +199,10 @@ fn one_take(alloc: Global, task: &Text, found: Found) -> Result<Takes, CopyFault
 }
 
 // The task's entry is looked at, and the task is run unless the entry is reused.
-fn take<S: Store>(alloc: Global, job: &Job, class_file: SmallFile, store: &mut S) -> Taken
+fn take<S: Store>(alloc: Global, job: &Job, class_file: TaskFile, store: &mut S) -> Taken
     requires named { IsNamed job.now.task job.now.entry job.now.log }
     requires short { length job.now.task ≤ 64 }
-    ensures take { IsTake job.now.task job.now.input (Outcome.Returns (constant class_file.opcode) []) (S.faults store.old) (S.faults store.new) (S.content store.old) (S.content store.new) result.reply result.takes }
+    ensures take { IsTake job.now.task job.now.input (Outcome.Returns (result_of class_file.body None) []) (S.faults store.old) (S.faults store.new) (S.content store.old) (S.content store.new) result.reply result.takes }
     ensures kept { S.kept store.new ≡ S.kept store.old }
 {
     match look(alloc, store, &job.entry, &job.task) {
@@ -222,11 +222,11 @@ fn take<S: Store>(alloc: Global, job: &Job, class_file: SmallFile, store: &mut S
 pub fn evaluate<S: Store>(
     alloc: Global,
     inputs: &Record,
-    class_file: SmallFile,
+    class_file: TaskFile,
     task: &Text,
     store: &mut S,
 ) -> Taken
-    requires built { not_built inputs.now.files ≡ None }
+    requires built { refusal_of_build inputs.now.files ≡ None }
     requires known { task_in inputs.now.files task.now ≡ Some class_file }
     ensures answer { IsAnswer inputs.now task.now (S.faults store.old) (S.faults store.new) (S.content store.old) (S.content store.new) result.reply result.takes }
     ensures kept { S.kept store.new ≡ S.kept store.old }

@@ -3,11 +3,11 @@
 ghost use Rattle.std.specs.Prelude.{◌≡◌, ◌++◌, ◌∷◌, [], Some, IfOk, OnOk, ◌<◌, ◌^◌, length};
 ghost use Rattle.sha2.specs.Sha256.{sha256};
 ghost use Rattle.tree_value.specs.Nets.{net};
-ghost use Rattle.mill_top.specs.Builds.{task_in};
+ghost use Rattle.mill_top.specs.Graphs.{task_in};
 ghost use Rattle.mill_top.specs.Inputs.{whole_row, method_text, input_text, input_hash, IsDigested};
 
 use crate::builds::is_class_path;
-use crate::class_file::SmallFile;
+use crate::task_file::TaskFile;
 use crate::recorded::Record;
 use sha2::{Digest as _, Sha256};
 use std::alloc::{AllocError, Global};
@@ -41,7 +41,7 @@ fn whole_row(alloc: Global, inputs: &Record) -> Result<Vec<u8>, AllocError>
 }
 
 #[tactic(auto, unfolding(crate::specs::Inputs::method_text))]
-fn method_text(alloc: Global, inputs: &Record, class_file: SmallFile) -> Result<Vec<u8>, AllocError>
+fn method_text(alloc: Global, inputs: &Record, class_file: TaskFile) -> Result<Vec<u8>, AllocError>
     requires { task_in inputs.now.files (class_file.task ∷ []) ≡ Some class_file }
     ensures { IfOk result (λ text. text.items ≡ method_text inputs.now (class_file.task ∷ [])) }
 {
@@ -66,7 +66,7 @@ fn prove_fits(text: &[u8])
 fn method_hash(
     alloc: Global,
     inputs: &Record,
-    class_file: SmallFile,
+    class_file: TaskFile,
 ) -> Result<[u8; 32], AllocError>
     requires { task_in inputs.now.files (class_file.task ∷ []) ≡ Some class_file }
     ensures hash { IfOk result (λ hash. hash ≡ sha256 (method_text inputs.now (class_file.task ∷ []))) }
@@ -78,7 +78,7 @@ fn method_hash(
 }
 
 #[tactic(auto, unfolding(crate::specs::Inputs::input_text))]
-fn input_text(alloc: Global, inputs: &Record, class_file: SmallFile) -> Result<Vec<u8>, AllocError>
+fn input_text(alloc: Global, inputs: &Record, class_file: TaskFile) -> Result<Vec<u8>, AllocError>
     requires { task_in inputs.now.files (class_file.task ∷ []) ≡ Some class_file }
     ensures text { IfOk result (λ text. text.items ≡ input_text inputs.now (class_file.task ∷ [])) }
     ensures method { OnOk result (length (method_text inputs.now (class_file.task ∷ [])) < 2 ^ 64) }
@@ -99,7 +99,7 @@ fn input_text(alloc: Global, inputs: &Record, class_file: SmallFile) -> Result<V
 pub fn input_hash(
     alloc: Global,
     inputs: &Record,
-    class_file: SmallFile,
+    class_file: TaskFile,
 ) -> Result<Digest, AllocError>
     requires { task_in inputs.now.files (class_file.task ∷ []) ≡ Some class_file }
     ensures hash { IfOk result (λ hash. hash ≡ input_hash inputs.now (class_file.task ∷ [])) }

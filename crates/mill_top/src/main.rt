@@ -3,20 +3,23 @@
 //! `io_real` for it. It stands on `tree_value`, `io_traits` and `io_real`, and on `sha2` and `hex`.
 #![tactic(auto)]
 
+mod build_fault;
 mod builds;
-mod class_file;
 mod entry;
 mod evaluating;
+mod graph;
 mod inputs;
+mod linked_file;
+mod operation;
 mod outcome;
 mod program;
 mod reading;
 mod recorded;
 mod reply;
 mod sending;
+mod small_file;
 mod takes;
-#[cfg(test)]
-mod tests;
+mod task_file;
 mod top;
 mod words;
 

@@ -2,9 +2,9 @@
 
 ghost use Rattle.std.specs.Prelude.{◌≡◌, []};
 ghost use Rattle.mill_top.specs.declared.outcome.Outcome.TheVariants.{Returns};
-ghost use Rattle.mill_top.specs.SmallFiles.{constant};
+ghost use Rattle.mill_top.specs.TaskFiles.{constant};
 
-use crate::class_file::SmallFile;
+use crate::task_file::TaskFile;
 use std::alloc::Global;
 use tree_value::Bytes;
 
@@ -16,8 +16,8 @@ pub enum Outcome {
 }
 
 /// Runs the task of a small file.
-pub fn run(alloc: Global, class_file: SmallFile) -> Outcome
-    ensures { result ≡ Outcome.Returns (constant class_file.opcode) [] }
+pub fn run(alloc: Global, class_file: TaskFile) -> Outcome
+    ensures { result ≡ Outcome.Returns (result_of class_file.body None) [] }
 {
-    Outcome::Returns(class_file.constant(), Bytes::from_vec(Vec::new(alloc)))
+    Outcome::Returns(class_file.body.result(None), Bytes::from_vec(Vec::new(alloc)))
 }

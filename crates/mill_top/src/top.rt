@@ -3,16 +3,17 @@
 ghost use Rattle.std.specs.Prelude.{◌≡◌, ◌⊎◌, ◌++◌, [], ℕ, List, take, Some, None, Option, IfOk, IfErr, IfSome, IsNone};
 ghost use Rattle.io_traits.specs.Causes.{Rose, HasCause};
 ghost use Rattle.io_traits.specs.Streams.{Got};
-ghost use Rattle.mill_top.specs.Builds.{not_built, task_in};
+ghost use Rattle.mill_top.specs.Graphs.{refusal_of_build, task_in};
 ghost use Rattle.mill_top.specs.Words.{asked};
 ghost use Rattle.mill_top.specs.Inputs.{Run, Clean};
 ghost use Rattle.mill_top.specs.Replies.{status, refusal, Shown};
 ghost use Rattle.mill_top.specs.Standing.{StandsIn};
 ghost use Rattle.mill_top.specs.Answers.{IsUnlessMemory, IsRecordOf, IsUnread, IsAnswer, IsAnswerTo, IsFromScratch, runs_in, all_texts, IsKept};
 
-use crate::builds::{build, if_has};
-use crate::class_file::SmallFile;
+use crate::build_fault::BuildFault;
+use crate::task_file::TaskFile;
 use crate::evaluating::{Taken, evaluate};
+use crate::graph::graph_of;
 use crate::reading::read_files;
 use crate::recorded::{Record, Variables, Words};
 use crate::reply::Reply;
@@ -63,13 +64,14 @@ fn no_task(task: &Text) -> Reply
 }
 
 // The small file that has the task, or why the record is refused.
-fn choose(inputs: &Record, task: &Text) -> Result<SmallFile, Reply>
-    ensures ok { IfOk result (λ class_file. (not_built inputs.now.files ≡ None) × (task_in inputs.now.files task.now ≡ Some class_file)) }
+fn choose(alloc: Global, inputs: &Record, task: &Text) -> Result<TaskFile, Reply>
+    ensures ok { IfOk result (λ class_file. (refusal_of_build inputs.now.files ≡ None) × (task_in inputs.now.files task.now ≡ Some class_file)) }
     ensures err { IfErr result (λ reply. (refused : Reply) × (refusal inputs.now task.now ≡ Some refused) × IsUnlessMemory reply refused) }
 {
-    match build(inputs.files.as_slice()) {
-        Err(path) => Err(file_not_built(path)),
-        Ok(file) => match if_has(task.as_slice(), file) {
+    match graph_of(alloc, inputs.files.as_slice()) {
+        Err(BuildFault::NotBuilt(path)) => Err(file_not_built(&path)),
+        Err(_) => Err(Reply::Memory),
+        Ok(graph) => match graph.named(task) {
             Some(class_file) => Ok(class_file),
             None => Err(no_task(task)),
         },
@@ -80,7 +82,7 @@ fn taken<S: Store>(alloc: Global, inputs: &Record, task: &Text, store: &mut S) -
     ensures answer { IsAnswer inputs.now task.now (S.faults store.old) (S.faults store.new) (S.content store.old) (S.content store.new) result.reply result.takes }
     ensures kept { S.kept store.new ≡ S.kept store.old }
 {
-    match choose(inputs, task) {
+    match choose(alloc, inputs, task) {
         Ok(class_file) => evaluate(alloc, inputs, class_file, task, store),
         Err(reply) => Taken::none(alloc, reply),
     }
