@@ -1,5 +1,7 @@
 pub mod SmallFileLaws
-pub mod BuildLaws
+pub mod LinkedFileLaws
+pub mod TableLaws
+pub mod GraphLaws
 pub mod SendingLaws
 pub mod ReadingLaws
 pub mod EntryLaws

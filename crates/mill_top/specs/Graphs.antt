@@ -1,5 +1,5 @@
 -- The task graph of a build: its tasks, why a build is refused, and the plan of a task.
-use Rattle.std.specs.Prelude.{Bool, false, ℕ, zero, suc, List, [], ◌∷◌, ◌++◌, length, flat_map, map, count_by, nat_le, slice_get, ◌==◌, ◌||◌, Option, Some, None, codes, is_none}
+use Rattle.std.specs.Prelude.{Bool, false, ℕ, zero, suc, List, [], ◌∷◌, ◌++◌, length, flat_map, map, count_by, nat_le, ◌==◌, ◌||◌, Option, Some, None, codes, is_none, is_some, option_and_then}
 use Rattle.std.specs.Option.{option_map, option_map_or, option_or}
 use Rattle.std.specs.List.{filter_map, find, list_any}
 use Rattle.io_traits.specs.Files.{Files}
@@ -42,6 +42,11 @@ abbrev pub inputs_of : Body → List ℕ
 inputs_of (Constant constant) = []
 inputs_of (Linked input operation constant) = input ∷ []
 
+-- the descriptor of a body's method (JVMS 4.3.3)
+abbrev pub descriptor_of : Body → List ℕ
+descriptor_of (Constant constant) = codes "()I"
+descriptor_of (Linked input operation constant) = codes "(I)I"
+
 abbrev pub inputs_in : List TaskFile → ℕ → List ℕ
 inputs_in graph task = option_map_or (λ file. inputs_of file.body) (file_with graph task) []
 
@@ -50,12 +55,12 @@ unfoldable pub duplicate_task : List TaskFile → Option ℕ
 duplicate_task files = find (λ task. nat_le 2 (count_by (λ file. file.task == task) files)) letters
 
 -- the first input of a task that the graph doesn't have
-abbrev pub unknown_input_of : List TaskFile → TaskFile → Option BuildFault
+unfoldable pub unknown_input_of : List TaskFile → TaskFile → Option BuildFault
 unknown_input_of graph file = option_map (λ input. UnknownInput input file.task) (find (λ input. is_none (file_with graph input)) (inputs_of file.body))
 
 -- that of the first task in name order which has one
 unfoldable pub unknown_input : List TaskFile → Option BuildFault
-unknown_input graph = slice_get (filter_map (unknown_input_of graph) graph) 0
+unknown_input graph = option_and_then (unknown_input_of graph) (find (λ file. is_some (unknown_input_of graph file)) graph)
 
 -- whether one to n steps from a task to an input of it lead from this task to the goal
 abbrev pub leads : ℕ → List TaskFile → ℕ → ℕ → Bool

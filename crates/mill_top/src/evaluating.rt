@@ -13,13 +13,13 @@ ghost use Rattle.mill_top.specs.TaskFiles.{constant};
 ghost use Rattle.mill_top.specs.Answers.{IsAnswer, IsEvaluation, IsReuse, IsKeptRun, IsRun, IsTake};
 ghost use Rattle.tree_value.specs.Paths.{IsPath};
 
-use crate::task_file::TaskFile;
 use crate::entry::Entry;
 use crate::inputs::input_hash;
 use crate::outcome::{Outcome, run};
 use crate::recorded::Record;
 use crate::reply::Reply;
 use crate::takes::{Found, Takes};
+use crate::task_file::TaskFile;
 use io_traits::{IoFault, Store};
 use std::alloc::Global;
 use tree_value::{Bytes, CopyFault, Digest, Path, PathFault, Text};

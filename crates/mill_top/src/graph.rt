@@ -1,7 +1,8 @@
 //! The task graph of a build.
 
-ghost use Rattle.std.specs.Prelude.{◌≡◌, ◌⊎◌, ◌++◌, ◌==◌, ◌<◌, length, map, nat_le, count_by, Some, None, IfOk, IfErr, OnOk, MatchOption};
-ghost use Rattle.mill_top.specs.Graphs.{letters, file_with, graph_of, named, task_files, build_graph, duplicate_task, unknown_input_of, unknown_input, inputs_in, leads, cycle, refusal_of_graph, refusal_of_build, upstream, plan_in};
+ghost use Rattle.std.specs.Prelude.{◌≡◌, find, is_some, slice_index_or, ◌⊎◌, ◌++◌, ◌==◌, ◌<◌, length, map, nat_le, count_by, Some, None, IfOk, IfErr, OnOk, MatchOption};
+ghost use Rattle.mill_top.specs.Tables.{placed};
+ghost use Rattle.mill_top.specs.Graphs.{letters, file_with, graph_of, named, task_files, build_graph, duplicate_task, unknown_input_of, unknown_input, inputs_in, leads, cycle, refusal_of_graph, refusal_of_tasks, refusal_of_build, upstream, plan_in};
 
 use crate::build_fault::BuildFault;
 use crate::builds::{first_out_of_place, task_files};
@@ -14,22 +15,23 @@ use tree_value::{Bytes, Path, Text};
 /// The names that a task may have.
 pub const LETTERS: [u8; 26] = *b"abcdefghijklmnopqrstuvwxyz";
 
-/// The tasks of a build in name order, each with the file that has it.
+/// The tasks of a build in name order, and a table of them by letter.
 #[derive(Debug, Drop)]
 pub struct Graph {
-    table: [Option<TaskFile>; 26],
+    tasks: Vec<TaskFile>,
+    table: Vec<Option<TaskFile>>,
 }
 
 impl Model for Graph {
-    ghost use Rattle.std.specs.Prelude.{List, IsTrue};
+    ghost use Rattle.std.specs.Prelude.{List};
     ghost use Rattle.mill_top.specs.declared.task_file.TaskFile.{TaskFile};
-    ghost use Rattle.mill_top.specs.Tables.{is_placed, placed};
+    ghost use Rattle.mill_top.specs.Tables.{IsTable};
 
     ghost Value = { List TaskFile };
 
-    ghost view = { λ graph. placed graph.table };
+    ghost view = { λ graph. graph.tasks.items };
 
-    ghost invariant = { λ graph. IsTrue (is_placed 97 graph.table) };
+    ghost invariant = { λ graph. IsTable graph.tasks.items graph.table.items };
 }
 
 fn file_with(files: &[TaskFile], task: u8) -> Option<TaskFile>
@@ -49,30 +51,55 @@ fn is_twice(files: &[TaskFile], task: u8) -> bool
 fn duplicate_task(files: &[TaskFile]) -> Option<u8>
     ensures { result ≡ duplicate_task files.now }
 {
+    LETTERS.iter().copied().find(|task| is_twice(files, *task))
+}
+
+// The file of each letter.
+fn table_of(alloc: Global, files: &[TaskFile]) -> Result<Vec<Option<TaskFile>>, AllocError>
+    ensures { IfOk result (λ table. table.items ≡ map (file_with files.now) letters) }
+{
     LETTERS
         .iter()
-        .copied()
-        .find(|task| is_twice(files, *task))
+        .map(|task| file_with(files, *task))
+        .collect(alloc)
+}
+
+fn placed(alloc: Global, table: &[Option<TaskFile>]) -> Result<Vec<TaskFile>, AllocError>
+    ensures { IfOk result (λ files. files.items ≡ placed table.now) }
+{
+    table.iter().filter_map(|place| *place).collect(alloc)
+}
+
+fn file_at(table: &[Option<TaskFile>], place: usize) -> Option<TaskFile>
+    ensures { result ≡ slice_index_or table.now place None }
+{
+    if place < table.len() {
+        table[place]
+    } else {
+        None
+    }
 }
 
 impl Graph {
     // The graph of the tasks of these files.
-    fn of(files: &[TaskFile]) -> Graph
-        ensures { result ≡ graph_of files.now }
+    #[tactic(auto, unfolding(crate::specs::Graphs::graph_of))]
+    fn of(alloc: Global, files: &[TaskFile]) -> Result<Graph, AllocError>
+        ensures { IfOk result (λ graph. graph ≡ graph_of files.now) }
     {
-        Graph {
-            table: LETTERS.map(|task| file_with(files, task)),
-        }
+        let table = table_of(alloc, files)?;
+        let tasks = placed(alloc, table.as_slice())?;
+        Ok(Graph { tasks, table })
     }
 
     /// The file that has the task.
     pub fn file_with(&self, task: u8) -> Option<TaskFile>
         ensures { result ≡ file_with self.now task }
     {
-        if is_task_letter(task) {
-            self.table[usize::from(task - b'a')]
-        } else {
+        let table = self.table.as_slice();
+        if task < b'a' {
             None
+        } else {
+            file_at(table, usize::from(task - b'a'))
         }
     }
 
@@ -86,13 +113,7 @@ impl Graph {
         }
     }
 
-    // How many tasks there are.
-    fn len(&self) -> usize
-        ensures { result ≡ length self.now }
-    {
-        self.table.iter().filter_map(|place| *place).count()
-    }
-
+    #[tactic(auto, unfolding(crate::specs::Graphs::unknown_input_of))]
     fn unknown_input_of(&self, file: TaskFile) -> Option<BuildFault>
         ensures { result ≡ unknown_input_of self.now file }
     {
@@ -107,15 +128,32 @@ impl Graph {
         }
     }
 
-    // The first input of a task, in name order, that the graph doesn't have.
+    #[tactic(auto, unfolding(crate::specs::Graphs::unknown_input_of))]
+    fn has_unknown_input(&self, file: TaskFile) -> bool
+        ensures { result ≡ is_some (unknown_input_of self.now file) }
+    {
+        match file.body {
+            Body::Linked { input, .. } => self.file_with(input).is_none(),
+            Body::Constant(_) => false,
+        }
+    }
+
+    // The first task, in name order, with an input that the graph doesn't have.
+    fn with_unknown_input(&self) -> Option<TaskFile>
+        ensures { result ≡ find (λ file. is_some (unknown_input_of self.now file)) self.now }
+    {
+        self.tasks
+            .iter()
+            .copied()
+            .find(|file| self.has_unknown_input(*file))
+    }
+
+    // Its first such input.
     #[tactic(auto, unfolding(crate::specs::Graphs::unknown_input))]
     fn unknown_input(&self) -> Option<BuildFault>
         ensures { result ≡ unknown_input self.now }
     {
-        self.table
-            .iter()
-            .filter_map(|place| *place)
-            .find_map(|file| self.unknown_input_of(file))
+        self.unknown_input_of(self.with_unknown_input()?)
     }
 
     // Whether one to `steps` steps from a task to its input lead from this task to the goal.
@@ -126,10 +164,12 @@ impl Graph {
             return false;
         }
         match self.file_with(task) {
-            Some(TaskFile {
-                body: Body::Linked { input, .. },
-                ..
-            }) => input == goal || self.leads(steps - 1, input, goal),
+            Some(
+                TaskFile {
+                    body: Body::Linked { input, .. },
+                    ..
+                },
+            ) => input == goal || self.leads(steps - 1, input, goal),
             _ => false,
         }
     }
@@ -139,23 +179,40 @@ impl Graph {
     fn cycle(&self) -> Option<u8>
         ensures { result ≡ cycle self.now }
     {
-        let steps = self.len();
-        self.table
+        let steps = self.tasks.len();
+        let file = self
+            .tasks
             .iter()
-            .filter_map(|place| *place)
-            .map(|file| file.task)
-            .find(|task| self.leads(steps, *task, *task))
+            .find(|file| self.leads(steps, file.task, file.task))?;
+        Some(file.task)
     }
 
-    fn push_upstream(&self, plan: &mut Vec<TaskFile>, steps: usize, task: u8) -> Result<(), AllocError>
+    // Why the build is refused, if its tasks are distinct.
+    fn refusal(&self) -> Option<BuildFault>
+        ensures { result ≡ refusal_of_graph self.now }
+    {
+        match self.unknown_input() {
+            Some(fault) => Some(fault),
+            None => Some(BuildFault::Cycle(self.cycle()?)),
+        }
+    }
+
+    // Adds the tasks upstream of the task, each behind its inputs, and then the task itself.
+    fn push_upstream(
+        &self,
+        plan: &mut Vec<TaskFile>,
+        steps: usize,
+        task: u8,
+    ) -> Result<(), AllocError>
         ensures { OnOk result (plan.new.items ≡ plan.old.items ++ upstream steps self.now task) }
     {
         if steps == 0 {
             return Ok(());
         }
         if let Some(file) = self.file_with(task) {
-            if let Body::Linked { input, .. } = file.body {
-                self.push_upstream(plan, steps - 1, input)?;
+            match file.body {
+                Body::Constant(_) => {}
+                Body::Linked { input, .. } => self.push_upstream(plan, steps - 1, input)?,
             }
             plan.push(file)?;
         }
@@ -164,17 +221,34 @@ impl Graph {
 
     /// The plan of a task: the tasks that lead to it by inputs, each behind its input, and the task itself; or `None`
     /// where the graph has no such task.
+    #[tactic(auto, unfolding(crate::specs::Graphs::plan_in))]
     pub fn plan(&self, alloc: Global, task: &Text) -> Result<Option<Vec<TaskFile>>, AllocError>
         ensures { IfOk result (λ plan. MatchOption plan (named self.now task.now ≡ None) (λ plan. plan.items ≡ plan_in self.now task.now)) }
     {
         match task.as_slice() {
             [task] if self.file_with(*task).is_some() => {
                 let mut plan = Vec::new(alloc);
-                self.push_upstream(&mut plan, self.len(), *task)?;
+                self.push_upstream(&mut plan, self.tasks.len(), *task)?;
                 Ok(Some(plan))
             }
             _ => Ok(None),
         }
+    }
+}
+
+// The graph of the tasks of all class files.
+fn graph_of_tasks(alloc: Global, files: &[TaskFile]) -> Result<Graph, BuildFault>
+    ensures accepted { OnOk result (refusal_of_tasks files.now ≡ None) }
+    ensures graph { IfOk result (λ graph. graph ≡ graph_of files.now) }
+    ensures refused { IfErr result (λ fault. (refusal_of_tasks files.now ≡ Some fault) ⊎ (fault ≡ BuildFault.Memory)) }
+{
+    if let Some(task) = duplicate_task(files) {
+        return Err(BuildFault::DuplicateTask(task));
+    }
+    let graph = Graph::of(alloc, files)?;
+    match graph.refusal() {
+        Some(fault) => Err(fault),
+        None => Ok(graph),
     }
 }
 
@@ -190,15 +264,5 @@ pub fn graph_of(alloc: Global, files: &[(Path, Bytes)]) -> Result<Graph, BuildFa
         return Err(BuildFault::NotBuilt(file.0.copy()?));
     }
     let tasks = task_files(alloc, files)?;
-    if let Some(task) = duplicate_task(tasks.as_slice()) {
-        return Err(BuildFault::DuplicateTask(task));
-    }
-    let graph = Graph::of(tasks.as_slice());
-    if let Some(fault) = graph.unknown_input() {
-        return Err(fault);
-    }
-    match graph.cycle() {
-        Some(task) => Err(BuildFault::Cycle(task)),
-        None => Ok(graph),
-    }
+    graph_of_tasks(alloc, tasks.as_slice())
 }

@@ -7,8 +7,8 @@ ghost use Rattle.mill_top.specs.Graphs.{task_in};
 ghost use Rattle.mill_top.specs.Inputs.{whole_row, method_text, input_text, input_hash, IsDigested};
 
 use crate::builds::is_class_path;
-use crate::task_file::TaskFile;
 use crate::recorded::Record;
+use crate::task_file::TaskFile;
 use sha2::{Digest as _, Sha256};
 use std::alloc::{AllocError, Global};
 use tree_value::Digest;
@@ -63,11 +63,7 @@ fn prove_fits(text: &[u8])
 }
 
 // The digest of the method's text.
-fn method_hash(
-    alloc: Global,
-    inputs: &Record,
-    class_file: TaskFile,
-) -> Result<[u8; 32], AllocError>
+fn method_hash(alloc: Global, inputs: &Record, class_file: TaskFile) -> Result<[u8; 32], AllocError>
     requires { task_in inputs.now.files (class_file.task ∷ []) ≡ Some class_file }
     ensures hash { IfOk result (λ hash. hash ≡ sha256 (method_text inputs.now (class_file.task ∷ []))) }
     ensures fits { OnOk result (length (method_text inputs.now (class_file.task ∷ [])) < 2 ^ 64) }

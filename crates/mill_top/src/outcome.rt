@@ -19,5 +19,8 @@ pub enum Outcome {
 pub fn run(alloc: Global, class_file: TaskFile) -> Outcome
     ensures { result ≡ Outcome.Returns (result_of class_file.body None) [] }
 {
-    Outcome::Returns(class_file.body.result(None), Bytes::from_vec(Vec::new(alloc)))
+    Outcome::Returns(
+        class_file.body.result(None),
+        Bytes::from_vec(Vec::new(alloc)),
+    )
 }

@@ -99,9 +99,7 @@ impl SmallFile {
     fn is_within(&self) -> bool
         ensures { result ≡ is_small_within self.now }
     {
-        is_class_letter(self.class)
-            && is_task_letter(self.task)
-            && is_constant_opcode(self.opcode)
+        is_class_letter(self.class) && is_task_letter(self.task) && is_constant_opcode(self.opcode)
     }
 
     #[tactic(auto, unfolding(crate::specs::SmallFiles::small_file))]

@@ -1,8 +1,8 @@
 //! What the class files of tasks say.
 
 ghost use Rattle.std.specs.Prelude.{◌≡◌};
-ghost use Rattle.std.specs.Option.{option_copied};
 ghost use Rattle.mill_top.specs.Builds.{small_task, linked_task, task_file_of};
+ghost use Rattle.mill_top.specs.Graphs.{descriptor_of};
 ghost use Rattle.mill_top.specs.Scratch.{result_of};
 
 use crate::linked_file::LinkedFile;
@@ -45,6 +45,16 @@ impl Body {
                 constant,
                 ..
             } => operation.apply(given.unwrap_or(0), constant),
+        }
+    }
+
+    /// The descriptor of the method (JVMS 4.3.3).
+    pub fn descriptor(self) -> &'static [u8]
+        ensures { result.now ≡ descriptor_of self }
+    {
+        match self {
+            Body::Constant(_) => b"()I",
+            Body::Linked { .. } => b"(I)I",
         }
     }
 }

@@ -11,7 +11,6 @@ ghost use Rattle.mill_top.specs.Standing.{StandsIn};
 ghost use Rattle.mill_top.specs.Answers.{IsUnlessMemory, IsRecordOf, IsUnread, IsAnswer, IsAnswerTo, IsFromScratch, runs_in, all_texts, IsKept};
 
 use crate::build_fault::BuildFault;
-use crate::task_file::TaskFile;
 use crate::evaluating::{Taken, evaluate};
 use crate::graph::graph_of;
 use crate::reading::read_files;
@@ -19,6 +18,7 @@ use crate::recorded::{Record, Variables, Words};
 use crate::reply::Reply;
 use crate::sending::send;
 use crate::takes::Takes;
+use crate::task_file::TaskFile;
 use crate::words::asked;
 use io_traits::{IoFault, Sink, Store, Workspace};
 use std::alloc::Global;
