@@ -1,7 +1,11 @@
 pub mod SmallFileLaws
 pub mod LinkedFileLaws
+pub mod FindLaws
 pub mod TableLaws
 pub mod GraphLaws
+pub mod WayLaws
+pub mod PlanLaws
+pub mod ScratchLaws
 pub mod SendingLaws
 pub mod ReadingLaws
 pub mod EntryLaws

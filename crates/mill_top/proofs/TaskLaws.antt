@@ -1,76 +1,38 @@
--- Laws of the task of a build.
-use Rattle.std.proofs.Common.{◌≡◌, ℕ, ℤ, zero, suc, FitsSigned, subst, lit<, ◌<◌, ◌≤◌, Bool, true, false, ◌&&◌, if◌then◌else◌, List, [], ◌∷◌, Option, Some, None, nat_le, refl, sym, ap, ◌∙◌, arith}
+-- Laws of what class files say.
+use Rattle.std.proofs.Common.{◌≡◌, ℕ, zero, suc, ◌≤◌, FitsSigned, lit<, Bool, true, false, ◌&&◌, ◌==◌, if◌then◌else◌, slice_index, List, Option, Some, None, nat_le, option_and_then, refl, sym, ap, subst, ◌∙◌, arith}
 use Rattle.std.specs.Int.{w32}
-use Rattle.std.specs.Option.{option_map}
+use Rattle.std.specs.List.{AllByRecursion}
+use Rattle.std.specs.Option.{option_map, option_or}
 use Rattle.std.specs.Str.{bytes_eq}
-use Rattle.std.proofs.lemmas.Slice.Eq.{bytes_eq-Decides}
-use Rattle.std.proofs.lemmas.Bool.{leb-true}
+use Rattle.std.proofs.lemmas.Bool.{and_parts, leb-true}
 use Rattle.io_traits.specs.Files.{Files}
-use Rattle.mill_top.specs.declared.class_file.SmallFile.{SmallFile}
-use Rattle.mill_top.specs.declared.outcome.Outcome.TheVariants.{Returns}
-use Rattle.mill_top.specs.declared.recorded.Record.{Record}
-use Rattle.mill_top.specs.Scratch.{scratch}
-use Rattle.mill_top.specs.SmallFiles.{constant, is_within, is_file_of, free_bytes, small_of}
-use Rattle.mill_top.specs.Builds.{class_files, if_has, task_among, task_in}
+use Rattle.mill_top.specs.declared.linked_file.LinkedFile.{LinkedFile}
+use Rattle.mill_top.specs.declared.operation.Operation.{Operation}
+use Rattle.mill_top.specs.declared.small_file.SmallFile.{SmallFile}
+use Rattle.mill_top.specs.declared.task_file.Body.{Body}
+use Rattle.mill_top.specs.declared.task_file.Body.TheVariants.{Constant, Linked}
+use Rattle.mill_top.specs.declared.task_file.TaskFile.{TaskFile}
+use Rattle.mill_top.specs.SmallFiles.{is_class_letter, is_task_letter, is_constant_opcode, constant, small_file, is_small_within, is_small_file, small_free, small_of}
+use Rattle.mill_top.specs.LinkedFiles.{operation_of, linked_file, is_linked_within, is_linked_file, if_linked_file, linked_free, linked_of}
+use Rattle.mill_top.specs.Builds.{small_task, linked_task, task_file_of, class_files}
+use Rattle.mill_top.specs.Graphs.{letters, file_with, task_files, graph_of, build_graph}
+use Rattle.mill_top.proofs.FindLaws.{holds-found, holds-given}
+
+-- the constant of a body is an int of 32 bits
+abbrev pub ConstantFits : Body → Type 0
+ConstantFits (Constant constant) = FitsSigned w32 constant
+ConstantFits (Linked input operation constant) = FitsSigned w32 constant
+
+-- what a file that is read says is within its bounds
+pub record IsWithin (file : TaskFile) : Type 0 where
+  pub low : 97 ≤ file.task
+  pub high : file.task ≤ 122
+  pub fits : ConstantFits file.body
 
 -- what a choice gives by a test
 chosen : {T : Type 0} (b : Bool) (x y : T) → (if b then Some x else None) ≡ Some y → (b ≡ true) × (x ≡ y)
 chosen true x y e = (refl, cc)
 chosen false x y e = cc
-
-left_of : (a b : Bool) → (a && b) ≡ true → a ≡ true
-left_of true b e = refl
-left_of false b e = cc
-
-right_of : (a b : Bool) → (a && b) ≡ true → b ≡ true
-right_of true b e = e
-right_of false b e = cc
-
-letter_within : (file : SmallFile) → is_within file ≡ true → (97 ≤ file.task) × (file.task ≤ 122)
-letter_within file e =
-    let own = nat_le 65 file.class && nat_le file.class 90 in
-    let task = nat_le 97 file.task && nat_le file.task 122 in
-    let opcode = nat_le 2 file.opcode && nat_le file.opcode 8 in
-    let is : task ≡ true = right_of own task (left_of (own && task) opcode e) in
-    (leb-true 97 file.task (left_of (nat_le 97 file.task) (nat_le file.task 122) is), leb-true file.task 122 (right_of (nat_le 97 file.task) (nat_le file.task 122) is))
-
-if_has_is : (task : List ℕ) (file : Option SmallFile) (class_file : SmallFile) → if_has task file ≡ Some class_file
-    → (task ≡ class_file.task ∷ []) × (file ≡ Some class_file)
-if_has_is task None class_file e = cc
-if_has_is task (Some own) class_file e =
-    let c = chosen (bytes_eq task (own.task ∷ [])) own class_file e in
-    ((bytes_eq-Decides task (own.task ∷ [])).0 c.0 ∙ ap (λ (f : SmallFile). f.task ∷ []) c.1, ap (λ (f : SmallFile). Some f) c.1)
-
-among_is : (classes : Files) (task : List ℕ) (class_file : SmallFile) → task_among classes task ≡ Some class_file
-    → (task ≡ class_file.task ∷ []) × ((bytes : List ℕ) × (small_of bytes ≡ Some class_file))
-among_is [] task class_file e = cc
-among_is (file ∷ []) task class_file e = let both = if_has_is task (small_of file.1) class_file e in (both.0, (file.1, both.1))
-among_is (file ∷ other ∷ rest) task class_file e = cc
-
-small_is_within : (bytes : List ℕ) (class_file : SmallFile) → small_of bytes ≡ Some class_file → is_within class_file ≡ true
-unfolding small_of is_file_of
-small_is_within bytes class_file e =
-    let c = chosen (is_file_of (free_bytes bytes) bytes) (free_bytes bytes) class_file e in
-    ap is_within (sym c.1) ∙ left_of _ _ c.0
-
-pub task_is : (files : Files) (task : List ℕ) (class_file : SmallFile) → task_in files task ≡ Some class_file → task ≡ class_file.task ∷ []
-unfolding task_in
-task_is files task class_file e = (among_is (class_files files) task class_file e).0
-
-pub letter : (files : Files) (task : List ℕ) (class_file : SmallFile) → task_in files task ≡ Some class_file → (97 ≤ class_file.task) × (class_file.task ≤ 122)
-unfolding task_in
-letter files task class_file e =
-    let small = (among_is (class_files files) task class_file e).1 in
-    let within = small_is_within small.0 class_file small.1 in
-    letter_within class_file within
-
-opcode_within : (file : SmallFile) → is_within file ≡ true → file.opcode ≤ 8
-opcode_within file e =
-    let own = nat_le 65 file.class && nat_le file.class 90 in
-    let task = nat_le 97 file.task && nat_le file.task 122 in
-    let opcode = nat_le 2 file.opcode && nat_le file.opcode 8 in
-    let is : opcode ≡ true = right_of (own && task) opcode e in
-    leb-true file.opcode 8 (right_of (nat_le 2 file.opcode) (nat_le file.opcode 8) is)
 
 constant_fits : (opcode : ℕ) → opcode ≤ 8 → FitsSigned w32 (constant opcode)
 constant_fits zero within = record { sfits = lit< tt }
@@ -84,15 +46,69 @@ constant_fits (suc (suc (suc (suc (suc (suc (suc zero))))))) within = record { s
 constant_fits (suc (suc (suc (suc (suc (suc (suc (suc zero)))))))) within = record { sfits = lit< tt }
 constant_fits (suc (suc (suc (suc (suc (suc (suc (suc (suc n))))))))) within = absurd (omega arith)
 
-returned : (found : Option SmallFile) (value : ℤ) (log : List ℕ) → option_map (λ (f : SmallFile). Returns (constant f.opcode) []) found ≡ Some (Returns value log)
-    → (class_file : SmallFile) × (found ≡ Some class_file) × (constant class_file.opcode ≡ value)
-returned None value log e = cc
-returned (Some class_file) value log e = (class_file, refl, cc)
+letter_low : (c : ℕ) → is_task_letter c ≡ true → 97 ≤ c
+letter_low c is = leb-true 97 c (and_parts (nat_le 97 c) (nat_le c 122) is).0
 
--- a value from scratch is an int of 32 bits
-pub scratch_fits : (inputs : Record) (task : List ℕ) (value : ℤ) (log : List ℕ) → scratch inputs task ≡ Some (Returns value log) → FitsSigned w32 value
-unfolding task_in
-scratch_fits inputs task value log e =
-    let own = returned (task_in inputs.files task) value log e in
-    let small = (among_is (class_files inputs.files) task own.0 own.1).1 in
-    subst (FitsSigned w32) own.2 (constant_fits own.0.opcode (opcode_within own.0 (small_is_within small.0 own.0 small.1)))
+letter_high : (c : ℕ) → is_task_letter c ≡ true → c ≤ 122
+letter_high c is = leb-true c 122 (and_parts (nat_le 97 c) (nat_le c 122) is).1
+
+opcode_fits : (opcode : ℕ) → is_constant_opcode opcode ≡ true → FitsSigned w32 (constant opcode)
+opcode_fits opcode is = constant_fits opcode (leb-true opcode 8 (and_parts (nat_le 2 opcode) (nat_le opcode 8) is).1)
+
+small-within : (file : SmallFile) → is_small_within file ≡ true → IsWithin (small_task file)
+small-within file is =
+    let rest = (and_parts (is_class_letter file.class) (is_task_letter file.task && is_constant_opcode file.opcode) is).1 in
+    let parts = and_parts (is_task_letter file.task) (is_constant_opcode file.opcode) rest in
+    record { low = letter_low file.task parts.0; high = letter_high file.task parts.0; fits = opcode_fits file.opcode parts.1 }
+
+linked-within : (file : LinkedFile) → is_linked_within file ≡ true → IsWithin (linked_task file)
+linked-within file is =
+    let rest = (and_parts (is_class_letter file.class) (is_task_letter file.task && (is_task_letter file.input && is_constant_opcode file.opcode)) is).1 in
+    let parts = and_parts (is_task_letter file.task) (is_task_letter file.input && is_constant_opcode file.opcode) rest in
+    let last = and_parts (is_task_letter file.input) (is_constant_opcode file.opcode) parts.1 in
+    record { low = letter_low file.task parts.0; high = letter_high file.task parts.0; fits = opcode_fits file.opcode last.1 }
+
+small_of-within : (bytes : List ℕ) (file : SmallFile) → small_of bytes ≡ Some file → is_small_within file ≡ true
+unfolding small_of is_small_file
+small_of-within bytes file e =
+    let free = small_free bytes in
+    let c = chosen (is_small_file free bytes) free file e in
+    ap is_small_within (sym c.1) ∙ (and_parts (is_small_within free) (bytes_eq bytes (small_file free)) c.0).0
+
+if_linked-within : (bytes : List ℕ) (free file : LinkedFile) → if_linked_file free bytes ≡ Some file → is_linked_within file ≡ true
+unfolding is_linked_file
+if_linked-within bytes free file e =
+    let c = chosen (is_linked_file free bytes) free file e in
+    ap is_linked_within (sym c.1) ∙ (and_parts (is_linked_within free) (bytes_eq bytes (linked_file free)) c.0).0
+
+linked-by : (bytes : List ℕ) (operation : Option Operation) (file : LinkedFile)
+    → option_and_then (λ operation. if_linked_file (linked_free bytes operation) bytes) operation ≡ Some file → is_linked_within file ≡ true
+linked-by bytes None file e = cc
+linked-by bytes (Some operation) file e = if_linked-within bytes (linked_free bytes operation) file e
+
+linked_of-within : (bytes : List ℕ) (file : LinkedFile) → linked_of bytes ≡ Some file → is_linked_within file ≡ true
+unfolding linked_of
+linked_of-within bytes file e = linked-by bytes (operation_of (slice_index bytes 155)) file e
+
+read-by : (small : Option SmallFile) (linked : Option LinkedFile) (file : TaskFile) → ((own : SmallFile) → small ≡ Some own → is_small_within own ≡ true)
+    → ((own : LinkedFile) → linked ≡ Some own → is_linked_within own ≡ true) → option_or (option_map small_task small) (option_map linked_task linked) ≡ Some file
+    → IsWithin file
+read-by (Some own) linked file small_is linked_is e = let same : small_task own ≡ file = cc in subst IsWithin same (small-within own (small_is own refl))
+read-by None (Some own) file small_is linked_is e = let same : linked_task own ≡ file = cc in subst IsWithin same (linked-within own (linked_is own refl))
+read-by None None file small_is linked_is e = cc
+
+read-within : (bytes : List ℕ) (file : TaskFile) → task_file_of bytes ≡ Some file → IsWithin file
+unfolding task_file_of
+read-within bytes file e = read-by (small_of bytes) (linked_of bytes) file (small_of-within bytes) (linked_of-within bytes) e
+
+all-within : (files : Files) → AllByRecursion IsWithin (task_files files)
+unfolding task_files
+all-within files = holds-given IsWithin (λ file. task_file_of file.1) (class_files files) (λ file own is. read-within file.1 own is)
+
+-- what the graph of a build says of a task is within its bounds
+pub known-within : (files : Files) (task : ℕ) (file : TaskFile) → file_with (build_graph files) task ≡ Some file → IsWithin file
+unfolding graph_of
+known-within files task file e =
+    holds-found IsWithin (λ own. own.task == task) (build_graph files) file (holds-given IsWithin (file_with (task_files files)) letters found) e where
+  found : (letter : ℕ) (own : TaskFile) → file_with (task_files files) letter ≡ Some own → IsWithin own
+  found letter own is = holds-found IsWithin (λ one. one.task == letter) (task_files files) own (all-within files) is

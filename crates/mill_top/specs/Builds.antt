@@ -1,12 +1,11 @@
 -- The class files of a workspace, and what is read of each.
-use Rattle.std.specs.Prelude.{Bool, false, not, ℕ, List, [], ◌∷◌, ◌++◌, ◌&&◌, nat_eq, Option, Some, None, codes}
+use Rattle.std.specs.Prelude.{Bool, false, not, ℕ, List, ◌∷◌, ◌++◌, ◌&&◌, nat_eq, Option, Some, None, codes}
 use Rattle.std.specs.Option.{option_map, option_or}
 use Rattle.std.specs.List.{filter, find, starts_with, ends_with}
 use Rattle.std.specs.Str.{bytes_eq}
 use Rattle.io_traits.specs.Files.{File, Files}
 use Rattle.mill_top.specs.declared.linked_file.LinkedFile.{LinkedFile}
 use Rattle.mill_top.specs.declared.small_file.SmallFile.{SmallFile}
-use Rattle.mill_top.specs.declared.task_file.Body.{Body}
 use Rattle.mill_top.specs.declared.task_file.Body.TheVariants.{Constant, Linked}
 use Rattle.mill_top.specs.declared.task_file.TaskFile.{TaskFile}
 use Rattle.mill_top.specs.LinkedFiles.{linked_of}

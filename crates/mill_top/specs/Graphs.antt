@@ -1,5 +1,5 @@
 -- The task graph of a build: its tasks, why a build is refused, and the plan of a task.
-use Rattle.std.specs.Prelude.{Bool, false, ℕ, zero, suc, List, [], ◌∷◌, ◌++◌, length, flat_map, map, count_by, nat_le, ◌==◌, ◌||◌, Option, Some, None, codes, is_none, is_some, option_and_then}
+use Rattle.std.specs.Prelude.{Bool, false, ℕ, zero, suc, List, [], ◌∷◌, ◌++◌, length, flat_map, count_by, nat_le, ◌==◌, ◌||◌, Option, None, codes, is_none, is_some, option_and_then}
 use Rattle.std.specs.Option.{option_map, option_map_or, option_or}
 use Rattle.std.specs.List.{filter_map, find, list_any}
 use Rattle.io_traits.specs.Files.{Files}

@@ -4,6 +4,7 @@ pub mod Words
 pub mod Builds
 pub mod Graphs
 pub mod Tables
+pub mod Chains
 pub mod Scratch
 pub mod Inputs
 pub mod Entries

@@ -1,7 +1,7 @@
 -- What a command's tasks are, evaluated from scratch: plain recursion over the graph. Nothing here knows a hash, an entry
 -- or a store.
-use Rattle.std.specs.Prelude.{ℕ, ℤ, pos, zero, suc, List, [], ◌∷◌, length, Option, Some, None, option_and_then, unwrap_or}
-use Rattle.std.specs.Int.{w32, int_wrapping_add, int_wrapping_sub, int_wrapping_mul}
+use Rattle.std.specs.Prelude.{ℕ, ℤ, pos, ◌+ℤ◌, ◌-ℤ◌, ◌*ℤ◌, zero, suc, List, [], ◌∷◌, length, Option, Some, None, option_and_then, unwrap_or}
+use Rattle.std.specs.Int.{w32, int_wrap}
 use Rattle.std.specs.Option.{option_map}
 use Rattle.io_traits.specs.Files.{Files}
 use Rattle.mill_top.specs.declared.operation.Operation.{Operation}
@@ -16,9 +16,9 @@ use Rattle.mill_top.specs.Graphs.{file_with, build_graph}
 
 -- `iadd`, `isub` and `imul` (JVMS 6.5), which wrap in 32 bits
 abbrev pub apply : Operation → ℤ → ℤ → ℤ
-apply Sum left right = int_wrapping_add w32 left right
-apply Difference left right = int_wrapping_sub w32 left right
-apply Product left right = int_wrapping_mul w32 left right
+apply Sum left right = int_wrap w32 (left +ℤ right)
+apply Difference left right = int_wrap w32 (left -ℤ right)
+apply Product left right = int_wrap w32 (left *ℤ right)
 
 -- the value of a body, given that of its input, if it has one; an input that isn't given would count as 0
 unfoldable pub result_of : Body → Option ℤ → ℤ

@@ -9,7 +9,7 @@ ghost use Rattle.mill_top.specs.declared.takes.Found.{Found};
 ghost use Rattle.mill_top.specs.Graphs.{task_in, refusal_of_build};
 ghost use Rattle.mill_top.specs.Entries.{entry_name, log_name, IsFound, IsNamed, IsWellFormed};
 ghost use Rattle.mill_top.specs.Inputs.{input_hash, IsDigested};
-ghost use Rattle.mill_top.specs.TaskFiles.{constant};
+ghost use Rattle.mill_top.specs.Scratch.{result_of};
 ghost use Rattle.mill_top.specs.Answers.{IsAnswer, IsEvaluation, IsReuse, IsKeptRun, IsRun, IsTake};
 ghost use Rattle.tree_value.specs.Paths.{IsPath};
 

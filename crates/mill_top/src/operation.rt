@@ -40,6 +40,7 @@ impl Operation {
     }
 
     /// The operation's result.
+    #[tactic(auto, using(std::proofs::lemmas::Int::wraps))]
     pub fn apply(self, left: i32, right: i32) -> i32
         ensures { result ≡ apply self left right }
     {

@@ -2,7 +2,7 @@
 
 ghost use Rattle.std.specs.Prelude.{◌≡◌, []};
 ghost use Rattle.mill_top.specs.declared.outcome.Outcome.TheVariants.{Returns};
-ghost use Rattle.mill_top.specs.TaskFiles.{constant};
+ghost use Rattle.mill_top.specs.Scratch.{result_of};
 
 use crate::task_file::TaskFile;
 use std::alloc::Global;
