@@ -4,6 +4,7 @@ pub mod FindLaws
 pub mod TableLaws
 pub mod GraphLaws
 pub mod WayLaws
+pub mod CycleLaws
 pub mod PlanLaws
 pub mod ScratchLaws
 pub mod SendingLaws

@@ -110,5 +110,5 @@ pub known-within : (files : Files) (task : ℕ) (file : TaskFile) → file_with 
 unfolding graph_of
 known-within files task file e =
     holds-found IsWithin (λ own. own.task == task) (build_graph files) file (holds-given IsWithin (file_with (task_files files)) letters found) e where
-  found : (letter : ℕ) (own : TaskFile) → file_with (task_files files) letter ≡ Some own → IsWithin own
-  found letter own is = holds-found IsWithin (λ one. one.task == letter) (task_files files) own (all-within files) is
+      found : (letter : ℕ) (own : TaskFile) → file_with (task_files files) letter ≡ Some own → IsWithin own
+      found letter own is = holds-found IsWithin (λ one. one.task == letter) (task_files files) own (all-within files) is

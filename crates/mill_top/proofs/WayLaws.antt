@@ -62,9 +62,9 @@ leads-from : (n : ℕ) (graph : List TaskFile) (task input goal : ℕ) → input
     → leads (suc n) graph task goal ≡ true
 leads-from n graph task input goal is way =
     ap (list_any (λ own. (own == goal) || leads n graph own goal)) is ∙ or_left ((input == goal) || leads n graph input goal) false (here way) where
-  here : (goal ≡ input) ⊎ (leads n graph input goal ≡ true) → ((input == goal) || leads n graph input goal) ≡ true
-  here (inl same) = or_left (input == goal) (leads n graph input goal) (eq-eqb input goal (sym same))
-  here (inr further) = or_right (input == goal) (leads n graph input goal) further
+      here : (goal ≡ input) ⊎ (leads n graph input goal ≡ true) → ((input == goal) || leads n graph input goal) ≡ true
+      here (inl same) = or_left (input == goal) (leads n graph input goal) (eq-eqb input goal (sym same))
+      here (inr further) = or_right (input == goal) (leads n graph input goal) further
 
 -- the tasks on the way from a task on, itself first, n at most
 abbrev pub way : ℕ → List TaskFile → ℕ → List ℕ
@@ -120,13 +120,13 @@ fresh zero graph task file input sound short has is = tt
 fresh (suc n) graph task file input sound short has is =
     all-weaker (IsOn n graph input) (λ goal. goal ≢ task) (way (suc n) graph input)
     (λ goal on same.
-        let led : leads (suc n) graph task goal ≡ true = leads-from n graph task input goal is on in
-        let back : leads (length graph) graph task task ≡ true = leads-more (suc n) (length graph) graph task task short (subst (λ g. leads (suc n) graph task g ≡ true) same led) in
-        let open_end = sound.acyclic task file has in
-        cc)
+    let led : leads (suc n) graph task goal ≡ true = leads-from n graph task input goal is on in
+    let back : leads (length graph) graph task task ≡ true = leads-more (suc n) (length graph) graph task task short (subst (λ g. leads (suc n) graph task g ≡ true) same led) in
+    let open_end = sound.acyclic task file has in
+    cc)
     (on-way n graph input)
 
-unequal : (task : ℕ) (tasks : List ℕ) → AllByRecursion (λ goal. goal ≢ task) tasks → AllByRecursion (λ goal. nat_eq task goal ≡ false) tasks
+pub unequal : (task : ℕ) (tasks : List ℕ) → AllByRecursion (λ goal. goal ≢ task) tasks → AllByRecursion (λ goal. nat_eq task goal ≡ false) tasks
 unequal task tasks all = all-weaker (λ goal. goal ≢ task) (λ goal. nat_eq task goal ≡ false) tasks (λ goal differs. ne_eqb task goal (λ same. differs (sym same))) all
 
 distinct-step : (n : ℕ) (graph : List TaskFile) (task : ℕ) → IsSound graph → n ≤ length graph → ((input : ℕ) → IsDistinct nat_eq (way n graph input)) → IsKind graph task
@@ -180,11 +180,11 @@ among : (graph : List TaskFile) (tasks : List ℕ) → AllByRecursion (IsMember 
 among graph [] all goal e = cc
 among graph (task ∷ tasks) all goal e = among-by graph task goal (nat_eq goal task) (list_any (nat_eq goal) tasks) refl all.0 (among graph tasks all.1 goal) e
 
--- the way is no longer than the graph has tasks
-way-short : (n : ℕ) (graph : List TaskFile) (task : ℕ) → IsSound graph → n ≤ suc (length graph) → length (way n graph task) ≤ length graph
-way-short n graph task sound short =
+-- a way on which no task comes twice is no longer than the graph has tasks
+pub way-fits : (n : ℕ) (graph : List TaskFile) (task : ℕ) → IsDistinct nat_eq (way n graph task) → length (way n graph task) ≤ length graph
+way-fits n graph task once =
     subst (λ k. length (way n graph task) ≤ k) (length-map graph (λ file. file.task))
-    (length-le_from_is_member nat_eq_equiv (way n graph task) (map (λ file. file.task) graph) (distinct n graph task sound short) (among graph (way n graph task) (way-member n graph task)))
+    (length-le_from_is_member nat_eq_equiv (way n graph task) (map (λ file. file.task) graph) once (among graph (way n graph task) (way-member n graph task)))
 
 -- whether the way from a task ends within n tasks
 abbrev pub ends : ℕ → List TaskFile → ℕ → Bool
@@ -220,7 +220,7 @@ ended-by : (graph : List TaskFile) (task : ℕ) (file : TaskFile) (ended : Bool)
 ended-by graph task file true sound known is = refl
 ended-by graph task file false sound known is =
     let long = way-long (length graph) graph task file sound known is in
-    let short = way-short (suc (length graph)) graph task sound (omega arith) in
+    let short = way-fits (suc (length graph)) graph task (distinct (suc (length graph)) graph task sound (omega arith)) in
     absurd (omega arith)
 
 -- each way ends within as many tasks as there are

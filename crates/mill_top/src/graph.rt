@@ -163,14 +163,12 @@ impl Graph {
         if steps == 0 {
             return false;
         }
-        match self.file_with(task) {
-            Some(
-                TaskFile {
-                    body: Body::Linked { input, .. },
-                    ..
-                },
-            ) => input == goal || self.leads(steps - 1, input, goal),
-            _ => false,
+        let Some(file) = self.file_with(task) else {
+            return false;
+        };
+        match file.body {
+            Body::Constant(_) => false,
+            Body::Linked { input, .. } => input == goal || self.leads(steps - 1, input, goal),
         }
     }
 
