@@ -61,10 +61,11 @@ straight-step n graph task goal away rest (linked file input operation value has
       long = subst (λ tasks. length tasks ≡ suc n) is (ap suc own.0);
       all = subst (AllByRecursion (λ one. leads (suc n) graph one goal ≡ true)) is
           (away.there, all-weaker (λ one. leads n graph one goal ≡ true) (λ one. leads (suc n) graph one goal ≡ true) (way n graph input) (λ one led. leads-more n (suc n) graph one goal (omega arith) led) own.1);
-      distinct = subst (IsDistinct nat_eq) is
-          (unequal task (way n graph input) (all-weaker (λ one. leads n graph one goal ≡ true) (λ one. one ≢ task) (way n graph input)
+      distinct = subst (IsDistinct nat_eq) is (
+        unequal task (way n graph input) (all-weaker (λ one. leads n graph one goal ≡ true) (λ one. one ≢ task) (way n graph input)
             (λ one led same. let again : leads n graph task goal ≡ true = subst (λ t. leads n graph t goal ≡ true) same led in let before = away.not_before in cc) own.1),
-          own.2);
+        own.2,
+      );
     }
 
 straight : (n : ℕ) (graph : List TaskFile) (task goal : ℕ) → IsAway n graph task goal → IsStraight n graph task goal

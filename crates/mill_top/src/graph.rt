@@ -1,8 +1,8 @@
 //! The task graph of a build.
 
-ghost use Rattle.std.specs.Prelude.{◌≡◌, find, is_some, slice_index_or, ◌⊎◌, ◌++◌, ◌==◌, ◌<◌, length, map, nat_le, count_by, Some, None, IfOk, IfErr, OnOk, MatchOption};
+ghost use Rattle.std.specs.Prelude.{◌≡◌, find, is_some, slice_index_or, ◌⊎◌, ◌++◌, ◌==◌, ◌<◌, map, nat_le, count_by, Some, None, IfOk, IfErr, OnOk, MatchOption, IsSome};
 ghost use Rattle.mill_top.specs.Tables.{placed};
-ghost use Rattle.mill_top.specs.Graphs.{letters, file_with, graph_of, named, task_files, build_graph, duplicate_task, unknown_input_of, unknown_input, inputs_in, leads, cycle, refusal_of_graph, refusal_of_tasks, refusal_of_build, upstream, plan_in};
+ghost use Rattle.mill_top.specs.Graphs.{letters, file_with, graph_of, named, build_graph, duplicate_task, unknown_input_of, unknown_input, leads, cycle, refusal_of_graph, refusal_of_tasks, refusal_of_build, upstream, plan_in};
 
 use crate::build_fault::BuildFault;
 use crate::builds::{first_out_of_place, task_files};
@@ -221,7 +221,7 @@ impl Graph {
     /// where the graph has no such task.
     #[tactic(auto, unfolding(crate::specs::Graphs::plan_in))]
     pub fn plan(&self, alloc: Global, task: &Text) -> Result<Option<Vec<TaskFile>>, AllocError>
-        ensures { IfOk result (λ plan. MatchOption plan (named self.now task.now ≡ None) (λ plan. plan.items ≡ plan_in self.now task.now)) }
+        ensures { IfOk result (λ plan. MatchOption plan (named self.now task.now ≡ None) (λ plan. IsSome (named self.now task.now) × (plan.items ≡ plan_in self.now task.now))) }
     {
         match task.as_slice() {
             [task] if self.file_with(*task).is_some() => {
