@@ -1,191 +1,198 @@
 -- What an answer owes, from what was done for it.
-use Rattle.std.proofs.Common.{◌≡◌, ◌≢◌, ℕ, ℤ, ◌≤◌, inl, inr, List, [], ◌∷◌, Option, Some, None, IfSome, IfNone, refl, sym, ap, subst, ◌∙◌, arith}
-use Rattle.std.specs.List.{AllByRecursion}
+use Rattle.std.proofs.Common.{◌≡◌, ◌≢◌, ℕ, ℤ, Bool, true, false, inl, inr, ◌⊎◌, List, [], ◌∷◌, ◌++◌, map, reverse, Option, Some, None, IsSome, Result, Ok, Err, IfOk, IfErr, OnOk, MatchOption, refl, sym, ap, subst, ◌∙◌}
+use Rattle.std.specs.Str.{bytes_eq}
+use Rattle.std.specs.Option.{is_none}
+use Rattle.std.proofs.lemmas.Bool.{false≢true}
+use Rattle.std.proofs.lemmas.Slice.Eq.{bytes_eq-Decides}
+use Rattle.std.proofs.lemmas.List.{same_from_push, append-nil, map-append}
 use Rattle.io_traits.specs.Causes.{Rose}
-use Rattle.io_traits.specs.Files.{Files, get}
-use Rattle.mill_top.specs.declared.entry.Entry.{Entry}
+use Rattle.io_traits.specs.Files.{Files}
+use Rattle.mill_top.specs.declared.build_fault.BuildFault.{BuildFault}
+use Rattle.mill_top.specs.declared.build_fault.BuildFault.TheVariants as faults
 use Rattle.mill_top.specs.declared.outcome.Outcome.{Outcome}
-use Rattle.mill_top.specs.declared.outcome.Outcome.TheVariants.{Returns}
 use Rattle.mill_top.specs.declared.recorded.Record.{Record}
 use Rattle.mill_top.specs.declared.reply.Reply.{Reply}
-use Rattle.mill_top.specs.declared.reply.Reply.TheVariants.{Value, Memory}
+use Rattle.mill_top.specs.declared.reply.Reply.TheVariants.{Value, NoTask, StoreFault, Memory}
 use Rattle.mill_top.specs.declared.takes.Found.{Found}
-use Rattle.mill_top.specs.declared.takes.Found.TheVariants.{Missing, Other, Same}
-use Rattle.std.specs.Option.{option_map}
-use Rattle.mill_top.specs.declared.class_file.SmallFile.{SmallFile}
-use Rattle.mill_top.specs.SmallFiles.{constant}
-use Rattle.mill_top.specs.Builds.{not_built, task_in}
-use Rattle.mill_top.specs.Entries.{entry_name, Reads, IsFound}
-use Rattle.mill_top.specs.Inputs.{input_hash, IsDigested}
+use Rattle.mill_top.specs.declared.task_file.TaskFile.{TaskFile}
+use Rattle.mill_top.specs.Graphs.{build_graph, named, task_in, refusal_of_build, plan, plan_in, task_name}
+use Rattle.mill_top.specs.Replies.{build_reply, refusal_by, refusal}
 use Rattle.mill_top.specs.Scratch.{scratch}
-use Rattle.mill_top.specs.Takes.{Why, IsNew, IsWhy, Gives}
-use Rattle.mill_top.specs.Out.{log_of, with_run, after_take, MayLeaveRun, MayLeaveTake, MayLeave}
-use Rattle.mill_top.specs.Replies.{refusal_by, refusal}
-use Rattle.mill_top.specs.Answers.{IsUnlessMemory, IsEvaluation, IsAnswer, IsKeptRun, IsRun, IsNothing, HasEntry, IsReason, IsTake}
+use Rattle.mill_top.specs.Takes.{Take, task_of, seen, given}
+use Rattle.mill_top.specs.Out.{after_takes, MayLeave}
+use Rattle.mill_top.specs.Answers.{IsUnlessMemory, IsEvaluation, AreTaken, IsValue, IsEvaluated, IsRefused, IsAnswer}
+use Rattle.mill_top.specs.Walks.{latest_value, IsWalked, IsStopped}
+use Rattle.mill_top.proofs.PlanLaws.{task_is, plan-last}
+use Rattle.mill_top.proofs.ScratchLaws.{absent-scratch, known-scratch}
+use Rattle.mill_top.proofs.WalkLaws.{reverse-cons, whole_takes}
 
-pub rose_earlier : (before mid now : ℕ) → before ≤ mid → Rose mid now → Rose before now
-rose_earlier before mid now later rose = omega arith
+-- a record that is not refused has the graph and the task
+pub accepted_by : (task : List ℕ) (fault : Option BuildFault) (outcome : Option Outcome) → refusal_by task fault outcome ≡ None → (fault ≡ None) × ((own : Outcome) × (outcome ≡ Some own))
+accepted_by task (Some fault) outcome e = cc
+accepted_by task None None e = cc
+accepted_by task None (Some own) e = (refl, (own, refl))
 
--- a run that began later, over the same content
-pub run_earlier : (task input : List ℕ) (found : Found) (outcome : Outcome) (before mid now : ℕ) (old same new : Option Files) (reply : Reply) (takes : List (List ℕ × Found))
-    → before ≤ mid → same ≡ old → IsRun task input found outcome mid now same new reply takes → IsRun task input found outcome before now old new reply takes
-run_earlier task input found outcome before mid now old same new reply takes earlier is (inl (run, one)) =
-    let run : IsKeptRun task input outcome mid now old new reply = subst (λ o. IsKeptRun task input outcome mid now o new reply) is run in
-    inl (
-      record {
-        evaluated = run.evaluated;
-        later = let later = run.later in omega arith;
-        cause = λ fault. rose_earlier before mid now earlier (run.cause fault);
-        value = run.value;
-        out = run.out;
-        left = run.left;
-      },
-      one,
-    )
-run_earlier task input found outcome before mid now old same new reply takes earlier is (inr (kept, wanted, none)) = inr (kept ∙ is, wanted, none)
+-- ---- an answer, by whether the record is refused
 
-after_run : (inputs : Record) (task : List ℕ) (found : Found) (o : Option Outcome) (outcome : Outcome) (content : Option Files) → IsNew found → o ≡ Some outcome
-    → after_take inputs task found o content ≡ with_run task (input_hash inputs task) outcome content
-after_run inputs task Missing None outcome content new is = cc
-after_run inputs task Missing (Some own) outcome content new is = let same : own ≡ outcome = cc in ap (λ x. with_run task (input_hash inputs task) x content) same
-after_run inputs task (Other d) None outcome content new is = cc
-after_run inputs task (Other d) (Some own) outcome content new is = let same : own ≡ outcome = cc in ap (λ x. with_run task (input_hash inputs task) x content) same
-after_run inputs task (Same d) o outcome content new is = absurd new
+by_evaluated : (inputs : Record) (task : List ℕ) (before now : ℕ) (old new : Option Files) (reply : Reply) (takes : List (List ℕ × Found)) (r : Option Reply) → r ≡ None
+    → IsEvaluated inputs task before now old new reply takes
+    → MatchOption r (IsEvaluated inputs task before now old new reply takes) (λ refused. IsRefused refused old new reply takes)
+by_evaluated inputs task before now old new reply takes r none h = rw none h
 
-may_leave_run : (inputs : Record) (task : List ℕ) (found : Found) (o : Option Outcome) (outcome : Outcome) (old new : Option Files) → IsNew found → o ≡ Some outcome
-    → MayLeaveRun task (input_hash inputs task) outcome old new → MayLeaveTake inputs task found o old new
-may_leave_run inputs task Missing None outcome old new is_new is left = cc
-may_leave_run inputs task Missing (Some own) outcome old new is_new is left = let same : outcome ≡ own = cc in subst (λ x. MayLeaveRun task (input_hash inputs task) x old new) same left
-may_leave_run inputs task (Other d) None outcome old new is_new is left = cc
-may_leave_run inputs task (Other d) (Some own) outcome old new is_new is left = let same : outcome ≡ own = cc in subst (λ x. MayLeaveRun task (input_hash inputs task) x old new) same left
-may_leave_run inputs task (Same d) o outcome old new is_new is left = absurd is_new
+pub evaluated_answer : (inputs : Record) (task : List ℕ) (before now : ℕ) (old new : Option Files) (reply : Reply) (takes : List (List ℕ × Found)) → refusal inputs task ≡ None
+    → IsEvaluated inputs task before now old new reply takes → IsAnswer inputs task before now old new reply takes
+evaluated_answer inputs task before now old new reply takes accepted h = by_evaluated inputs task before now old new reply takes (refusal inputs task) accepted h
 
-gives_run : (inputs : Record) (task : List ℕ) (found : Found) (content : Option Files) (value : ℤ) (log : List ℕ) → IsNew found
-    → scratch inputs task ≡ Some (Returns value log) → Gives inputs content task found value
-gives_run inputs task Missing content value log new is = (log, is)
-gives_run inputs task (Other d) content value log new is = (log, is)
-gives_run inputs task (Same d) content value log new is = absurd new
-
-accepted_refused : (inputs : Record) (task : List ℕ) (reply : Reply) (takes : List (List ℕ × Found)) → refusal inputs task ≡ None
-    → IfSome (refusal inputs task) (λ refused. IsUnlessMemory reply refused × (takes ≡ []))
-accepted_refused inputs task reply takes accepted = subst (λ r. IfSome r (λ refused. IsUnlessMemory reply refused × (takes ≡ []))) (sym accepted) tt
-
--- nothing is taken
-pub nothing_answer : (inputs : Record) (task : List ℕ) (before now : ℕ) (old new : Option Files) (reply : Reply) (takes : List (List ℕ × Found))
-    → refusal inputs task ≡ None → IsNothing before now old new reply takes → IsAnswer inputs task before now old new reply takes
-nothing_answer inputs task before now old new reply takes accepted h = record {
-  refused = accepted_refused inputs task reply takes accepted;
-  evaluated = subst (λ r. IfNone r (IsEvaluation reply)) (sym accepted) h.evaluated;
-  cause = h.cause;
-  value = λ value is. absurd (h.no_value value is);
-  digested = λ value is. absurd (h.no_value value is);
-  why = subst (AllByRecursion (IsWhy inputs old)) (sym h.none_taken) tt;
-  out = λ value is. absurd (h.no_value value is);
-  left = subst (λ ts. MayLeave inputs ts old new) (sym h.none_taken) h.same;
-}
-
-not_value : (value : ℤ) → Memory ≢ Value value
-not_value value e = cc
-
-pub memory_nothing : (before now : ℕ) (old new : Option Files) (reply : Reply) (takes : List (List ℕ × Found)) → reply ≡ Memory → takes ≡ [] → new ≡ old
-    → IsNothing before now old new reply takes
-memory_nothing before now old new reply takes is none same =
-    let own : IsNothing before now old new Memory takes = record {
-      evaluated = inr refl;
-      no_value = not_value;
-      cause = λ e. cc;
-      none_taken = none;
-      same = same;
-    } in subst (λ r. IsNothing before now old new r takes) (sym is) own
-
-reads_at : (task input : List ℕ) (content : Option Files) (entry : Entry) → HasEntry task input content entry
-    → IfSome content (λ files. Reads task (get files (entry_name task)) (record { input = entry.input; value = entry.value }))
-reads_at task input content entry has = has.reads
-
--- an entry is reused
-reuse_answer : (inputs : Record) (task : List ℕ) (before now : ℕ) (old new : Option Files) (entry : Entry)
-    → refusal inputs task ≡ None → IsDigested inputs task → HasEntry task (input_hash inputs task) old entry → new ≡ old
-    → IsAnswer inputs task before now old new (Value entry.value) ((task, Same entry.input) ∷ [])
-reuse_answer inputs task before now old new entry accepted digested has same = record {
-  refused = accepted_refused inputs task (Value entry.value) ((task, Same entry.input) ∷ []) accepted;
-  evaluated = subst (λ r. IfNone r (IsEvaluation (Value entry.value))) (sym accepted) tt;
+memory_evaluated : (inputs : Record) (task : List ℕ) (before now : ℕ) (content : Option Files) → IsEvaluated inputs task before now content content Memory []
+memory_evaluated inputs task before now content = record {
+  evaluated = inr refl;
   cause = λ e. cc;
-  value = λ value is.
-      let own : entry.value ≡ value = cc in
-      record {
-        found = Same entry.input;
-        one = refl;
-        gives = subst (λ v. IfSome old (λ files. Reads task (get files (entry_name task)) (record { input = entry.input; value = v }))) own (reads_at task _ old entry has);
-      };
-  digested = λ value is. digested;
-  why = (why_same old has.reads, tt);
-  out = λ value is. same;
-  left = same;
-} where
-  why_same : (content : Option Files) → IfSome content (λ files. Reads task (get files (entry_name task)) entry)
-      → IfSome content (λ files. Why task (input_hash inputs task) (get files (entry_name task)) (Same entry.input))
-  why_same None reads = tt
-  why_same (Some files) reads = (has.same_input, (entry, reads, refl))
-
--- the task is run
-run_answer : (inputs : Record) (task : List ℕ) (outcome : Outcome) (before now : ℕ) (old new : Option Files) (reply : Reply) (found : Found)
-    → refusal inputs task ≡ None → IsDigested inputs task → scratch inputs task ≡ Some outcome → IsReason task (input_hash inputs task) old found
-    → IsKeptRun task (input_hash inputs task) outcome before now old new reply
-    → IsAnswer inputs task before now old new reply ((task, found) ∷ [])
-run_answer inputs task outcome before now old new reply found accepted digested is reason run = record {
-  refused = accepted_refused inputs task reply ((task, found) ∷ []) accepted;
-  evaluated = subst (λ r. IfNone r (IsEvaluation reply)) (sym accepted) run.evaluated;
-  cause = run.cause;
-  value = λ value own. record {
-    found = found;
-    one = refl;
-    gives = gives_run inputs task found old value (log_of outcome) reason.new (is ∙ ap (λ x. Some x) (run.value value own));
-  };
-  digested = λ value own. digested;
-  why = (reason.why, tt);
-  out = λ value own. run.out value own ∙ sym (after_run inputs task found (scratch inputs task) outcome old reason.new is);
-  left = may_leave_run inputs task found (scratch inputs task) outcome old new reason.new is run.left;
+  done = [];
+  rest = plan inputs.files task;
+  taken = record { all_seen = refl; in_order = refl; are_given = tt };
+  value = λ value e. cc;
+  left = refl;
 }
 
-moved : (inputs : Record) (task : List ℕ) (before now : ℕ) (old new : Option Files) (reply own : Reply) (takes own_takes : List (List ℕ × Found))
-    → reply ≡ own → takes ≡ own_takes → IsAnswer inputs task before now old new own own_takes → IsAnswer inputs task before now old new reply takes
-moved inputs task before now old new reply own takes own_takes p q answer =
-    subst (λ r. IsAnswer inputs task before now old new r takes) (sym p) (subst (λ ts. IsAnswer inputs task before now old new own ts) (sym q) answer)
+by_memory : (inputs : Record) (task : List ℕ) (before now : ℕ) (content : Option Files) (r : Option Reply)
+    → MatchOption r (IsEvaluated inputs task before now content content Memory []) (λ refused. IsRefused refused content content Memory [])
+by_memory inputs task before now content None = memory_evaluated inputs task before now content
+by_memory inputs task before now content (Some refused) = record { reply_is = inr refl; nothing_taken = refl; out = refl }
 
-pub take_answer : (inputs : Record) (task input : List ℕ) (outcome : Outcome) (before now : ℕ) (old new : Option Files) (reply : Reply) (takes : List (List ℕ × Found))
-    → refusal inputs task ≡ None → IsDigested inputs task → scratch inputs task ≡ Some outcome → input ≡ input_hash inputs task
-    → IsTake task input outcome before now old new reply takes → IsAnswer inputs task before now old new reply takes
-take_answer inputs task input outcome before now old new reply takes accepted digested is hash (inl nothing) = nothing_answer inputs task before now old new reply takes accepted nothing
-take_answer inputs task input outcome before now old new reply takes accepted digested is hash (inr (inl (entry, has, same, inl (p, q)))) =
-    moved inputs task before now old new reply _ takes _ p q (reuse_answer inputs task before now old new entry accepted digested (subst (λ h. HasEntry task h old entry) hash has) same)
-take_answer inputs task input outcome before now old new reply takes accepted digested is hash (inr (inl (entry, has, same, inr (p, q)))) =
-    nothing_answer inputs task before now old new reply takes accepted (memory_nothing before now old new reply takes p q same)
-take_answer inputs task input outcome before now old new reply takes accepted digested is hash (inr (inr (found, reason, inl (run, q)))) =
-    moved inputs task before now old new reply reply takes _ refl q
-    (run_answer inputs task outcome before now old new reply found accepted digested is (subst (λ h. IsReason task h old found) hash reason) (subst (λ h. IsKeptRun task h outcome before now old new reply) hash run))
-take_answer inputs task input outcome before now old new reply takes accepted digested is hash (inr (inr (found, reason, inr (same, p, q)))) =
-    nothing_answer inputs task before now old new reply takes accepted (memory_nothing before now old new reply takes p q same)
+by_refused : (inputs : Record) (task : List ℕ) (before now : ℕ) (content : Option Files) (reply : Reply) (r : Option Reply) → r ≡ Some reply
+    → MatchOption r (IsEvaluated inputs task before now content content reply []) (λ refused. IsRefused refused content content reply [])
+by_refused inputs task before now content reply r is = rw is (record { reply_is = inl refl; nothing_taken = refl; out = refl })
 
--- an entry of another input hash is a reason to run
-pub other_reason : (task input : List ℕ) (content : Option Files) (entry : Entry) → entry.input ≢ input
-    → IfSome content (λ files. Reads task (get files (entry_name task)) entry) → IsReason task input content (Other entry.input)
-other_reason task input content entry differs reads = record { new = tt; why = why_other content reads } where
-  why_other : (content : Option Files) → IfSome content (λ files. Reads task (get files (entry_name task)) entry)
-      → IfSome content (λ files. Why task input (get files (entry_name task)) (Other entry.input))
-  why_other None reads = tt
-  why_other (Some files) reads = (differs, (entry, reads, refl))
+-- nothing is taken where the record is refused, or memory was wanted before it was clear
+pub nothing_answer : (inputs : Record) (task : List ℕ) (before now : ℕ) (content : Option Files) (reply : Reply) → (reply ≡ Memory) ⊎ (refusal inputs task ≡ Some reply)
+    → IsAnswer inputs task before now content content reply []
+nothing_answer inputs task before now content reply (inl wanted) =
+    subst (λ r. IsAnswer inputs task before now content content r []) (sym wanted) (by_memory inputs task before now content (refusal inputs task))
+nothing_answer inputs task before now content reply (inr is) = by_refused inputs task before now content reply (refusal inputs task) is
 
-pub found_reads : (task name : List ℕ) (content : Option Files) (found : Option Entry) (entry : Entry) → name ≡ entry_name task → found ≡ Some entry
-    → IfSome content (λ files. IsFound task (get files name) found) → IfSome content (λ files. Reads task (get files (entry_name task)) entry)
-found_reads task name None found entry here is reads = tt
-found_reads task name (Some files) None entry here is reads = cc
-found_reads task name (Some files) (Some own) entry here is reads =
-    let same : own ≡ entry = cc in
-    subst (λ e. Reads task (get files (entry_name task)) e) same (subst (λ n. Reads task (get files n) own) here reads)
+-- ---- an evaluation, from the walk along the plan
 
--- a build with the task is accepted, and the task has the constant of its file
-pub accepted : (inputs : Record) (task : List ℕ) (class_file : SmallFile) → not_built inputs.files ≡ None → task_in inputs.files task ≡ Some class_file
-    → (refusal inputs task ≡ None) × (scratch inputs task ≡ Some (Returns (constant class_file.opcode) []))
-accepted inputs task class_file built known =
-    let is : scratch inputs task ≡ Some (Returns (constant class_file.opcode) []) = ap (option_map (λ (f : SmallFile). Returns (constant f.opcode) [])) known in
-    ((λ i. refusal_by task (built i) (is i)), is)
+given_first : (take : Take) (earlier : List Take) → given (take ∷ earlier) take.task ≡ Some take.value
+given_first take earlier = rw ((bytes_eq-Decides take.task take.task).1 refl) refl
+
+last_value : (inputs : Record) (task : List ℕ) (file : TaskFile) (front : List TaskFile) (old new : Option Files) (takes : List (List ℕ × Found)) (done : List Take) (value : ℤ)
+    → task ≡ task_name file → plan inputs.files task ≡ front ++ file ∷ []
+    → AreTaken inputs (plan inputs.files task) old takes done [] → new ≡ after_takes done old → Some value ≡ latest_value done → IsValue task old new done [] value
+last_value inputs task file front old new takes [] value name ends taken out last = cc
+last_value inputs task file front old new takes (take ∷ earlier) value name ends taken out last =
+    let names : reverse (map task_of earlier) ++ take.task ∷ [] ≡ map task_name front ++ task_name file ∷ [] =
+    sym (reverse-cons take.task (map task_of earlier)) ∙ sym (append-nil (reverse (map task_of (take ∷ earlier)))) ∙ taken.in_order ∙ ap (map task_name) ends ∙ map-append task_name front (file ∷ []) in
+    let same : take.task ≡ task = (same_from_push (reverse (map task_of earlier)) (map task_name front) take.task (task_name file) names).1 ∙ sym name in
+    record {
+      whole = refl;
+      is_given = subst (λ t. given (take ∷ earlier) t ≡ Some value) same (given_first take earlier ∙ sym last);
+      out = out;
+    }
+
+value_is : (value own : ℤ) → Value own ≡ Value value → own ≡ value
+value_is value own e = cc
+
+pub walked_evaluated : (inputs : Record) (task : List ℕ) (file : TaskFile) (planned : List TaskFile) (before now : ℕ) (old new : Option Files) (takes : List (List ℕ × Found)) (value : ℤ)
+    → planned ≡ plan inputs.files task → refusal_of_build inputs.files ≡ None → task_in inputs.files task ≡ Some file
+    → IsWalked inputs planned old new takes [] (Some value) → IsEvaluated inputs task before now old new (Value value) takes
+walked_evaluated inputs task file planned before now old new takes value is accepted known walked =
+    let ends = plan-last inputs.files task file accepted known in
+    let taken : AreTaken inputs (plan inputs.files task) old takes walked.done [] = subst (λ p. AreTaken inputs p old takes walked.done []) is walked.taken in
+    record {
+      evaluated = tt;
+      cause = λ e. cc;
+      done = walked.done;
+      rest = [];
+      taken = taken;
+      value = λ v e. subst (IsValue task old new walked.done []) (value_is v value e)
+          (last_value inputs task file ends.0 old new takes walked.done value (task_is inputs.files task file known).0 ends.1 taken walked.out walked.value_is);
+      left = subst (λ content. MayLeave walked.done old content) (sym walked.out) (whole_takes walked.done old);
+    }
+
+pub stopped_evaluated : (inputs : Record) (task : List ℕ) (planned : List TaskFile) (before now : ℕ) (old new : Option Files) (reply : Reply) (takes : List (List ℕ × Found))
+    → planned ≡ plan inputs.files task → IsEvaluation reply → (reply ≡ StoreFault → Rose before now) → ((value : ℤ) → reply ≢ Value value)
+    → IsStopped inputs planned old new takes → IsEvaluated inputs task before now old new reply takes
+stopped_evaluated inputs task planned before now old new reply takes is evaluated cause no_value stopped = record {
+  evaluated = evaluated;
+  cause = cause;
+  done = stopped.done;
+  rest = stopped.rest;
+  taken = subst (λ p. AreTaken inputs p old takes stopped.done stopped.rest) is stopped.taken;
+  value = λ value e. absurd (no_value value e);
+  left = stopped.left;
+}
+
+abbrev is_empty : List (List ℕ) → Bool
+is_empty [] = true
+is_empty (x ∷ xs) = false
+
+empty_push : (xs : List (List ℕ)) (x : List ℕ) → [] ≡ xs ++ x ∷ [] → ⊥
+empty_push [] x e = let differ : true ≡ false = ap is_empty e in absurd (false≢true (sym differ))
+empty_push (y ∷ xs) x e = let differ : true ≡ false = ap is_empty e in absurd (false≢true (sym differ))
+
+none_taken : (done : List Take) (names : List (List ℕ)) (name : List ℕ) → None ≡ latest_value done → reverse (map task_of done) ++ [] ≡ names ++ name ∷ [] → ⊥
+none_taken [] names name last e = empty_push names name e
+none_taken (take ∷ earlier) names name last e = let differ : true ≡ false = ap is_none last in absurd (false≢true (sym differ))
+
+-- a plan that is walked to its end has a value
+pub walked_some : (inputs : Record) (task : List ℕ) (file : TaskFile) (planned : List TaskFile) (old new : Option Files) (takes : List (List ℕ × Found))
+    → planned ≡ plan inputs.files task → refusal_of_build inputs.files ≡ None → task_in inputs.files task ≡ Some file → IsWalked inputs planned old new takes [] None → ⊥
+walked_some inputs task file planned old new takes is accepted known walked =
+    let ends = plan-last inputs.files task file accepted known in
+    none_taken walked.done (map task_name ends.0) (task_name file) walked.value_is (walked.taken.in_order ∙ ap (map task_name) (is ∙ ends.1) ∙ map-append task_name ends.0 (file ∷ []))
+
+-- ---- what is chosen
+
+build_refused_by : (task : List ℕ) (found : Option BuildFault) (fault : BuildFault) (outcome : Option Outcome) → found ≡ Some fault → refusal_by task found outcome ≡ Some (build_reply fault)
+build_refused_by task found fault outcome is = rw is refl
+
+pub build_refused : (inputs : Record) (task : List ℕ) (fault : BuildFault) → refusal_of_build inputs.files ≡ Some fault → refusal inputs task ≡ Some (build_reply fault)
+build_refused inputs task fault is = build_refused_by task (refusal_of_build inputs.files) fault (scratch inputs task) is
+
+chosen_by : (task : List ℕ) (found : Option BuildFault) (outcome : Option Outcome) (own : Outcome) → found ≡ None → outcome ≡ Some own → refusal_by task found outcome ≡ None
+chosen_by task found outcome own none some = rw (none, some) refl
+
+pub chosen : (inputs : Record) (task : List ℕ) (file : TaskFile) → refusal_of_build inputs.files ≡ None → task_in inputs.files task ≡ Some file → refusal inputs task ≡ None
+chosen inputs task file accepted known =
+    let own = known-scratch inputs task file accepted known in
+    chosen_by task (refusal_of_build inputs.files) (scratch inputs task) own.0 accepted own.1
+
+absent_by : (task : List ℕ) (found : Option BuildFault) (outcome : Option Outcome) → found ≡ None → outcome ≡ None → refusal_by task found outcome ≡ Some (NoTask task)
+absent_by task found outcome none absent = rw (none, absent) refl
+
+pub absent : (inputs : Record) (task : List ℕ) → refusal_of_build inputs.files ≡ None → task_in inputs.files task ≡ None → refusal inputs task ≡ Some (NoTask task)
+absent inputs task accepted none = absent_by task (refusal_of_build inputs.files) (scratch inputs task) accepted (absent-scratch inputs task none)
+
+file_by : (inputs : Record) (task : List ℕ) (found : Option TaskFile) (own : Outcome) → task_in inputs.files task ≡ found → scratch inputs task ≡ Some own → (file : TaskFile) × (task_in inputs.files task ≡ Some file)
+file_by inputs task None own is some = let differ : true ≡ false = ap is_none (sym (absent-scratch inputs task is) ∙ some) in absurd (false≢true (sym differ))
+file_by inputs task (Some file) own is some = (file, is)
+
+-- a record that is not refused has a file of the task
+pub accepted_file : (inputs : Record) (task : List ℕ) → refusal inputs task ≡ None → (refusal_of_build inputs.files ≡ None) × ((file : TaskFile) × (task_in inputs.files task ≡ Some file))
+accepted_file inputs task e =
+    let both = accepted_by task (refusal_of_build inputs.files) (scratch inputs task) e in
+    (both.0, file_by inputs task (task_in inputs.files task) both.1.0 refl both.1.1)
+
+pub chosen_plan : {T : Type 0} (items : T → List TaskFile) (inputs : Record) (task : List ℕ) (graph : List TaskFile) (result : Result T Reply) → refusal_of_build inputs.files ≡ None → graph ≡ build_graph inputs.files
+    → OnOk result (IsSome (named graph task)) → IfOk result (λ planned. items planned ≡ plan_in graph task)
+    → IfOk result (λ planned. (refusal inputs task ≡ None) × (items planned ≡ plan inputs.files task))
+chosen_plan items inputs task graph (Err reply) accepted is known planned = tt
+chosen_plan items inputs task graph (Ok own) accepted is known planned =
+    let file = some_file (named graph task) known in
+    (chosen inputs task file.0 accepted (ap (λ g. named g task) (sym is) ∙ file.1), planned ∙ ap (λ g. plan_in g task) is) where
+      some_file : (found : Option TaskFile) → IsSome found → (file : TaskFile) × (found ≡ Some file)
+      some_file None some = absurd (false≢true some)
+      some_file (Some file) some = (file, refl)
+
+pub unplanned : {T : Type 0} (inputs : Record) (task : List ℕ) (graph : List TaskFile) (result : Result T Reply) → refusal_of_build inputs.files ≡ None → graph ≡ build_graph inputs.files
+    → IfErr result (λ reply. (reply ≡ Memory) ⊎ ((named graph task ≡ None) × (reply ≡ NoTask task)))
+    → IfErr result (λ reply. (reply ≡ Memory) ⊎ (refusal inputs task ≡ Some reply))
+unplanned inputs task graph (Ok own) accepted is why = tt
+unplanned inputs task graph (Err reply) accepted is (inl wanted) = inl wanted
+unplanned inputs task graph (Err reply) accepted is (inr (none, same)) =
+    inr (absent inputs task accepted (ap (λ g. named g task) (sym is) ∙ none) ∙ ap (λ r. Some r) (sym same))
+
+pub refused_build : (inputs : Record) (task : List ℕ) (fault : BuildFault) (reply : Reply) → reply ≡ build_reply fault → (refusal_of_build inputs.files ≡ Some fault) ⊎ (fault ≡ faults.Memory)
+    → (reply ≡ Memory) ⊎ (refusal inputs task ≡ Some reply)
+refused_build inputs task fault reply same (inl is) = inr (build_refused inputs task fault is ∙ ap (λ r. Some r) (sym same))
+refused_build inputs task fault reply same (inr wanted) = inl (same ∙ ap build_reply wanted)

@@ -1,81 +1,93 @@
--- Laws of the text of an entry.
-use Rattle.std.proofs.Common.{◌≡◌, ℕ, ℤ, ◌+◌, ◌-◌, ◌*◌, ◌<◌, ◌^◌, List, ◌++◌, length, take, drop, codes, FitsSigned, IsUtf8, refl, sym, ap, subst, ◌∙◌, append_assoc, arith, length-append, inl, inr, Result, Ok, Err, MatchResult}
-use Rattle.std.specs.Int.{w32}
-use Rattle.std.specs.Fmt.{signed_decimal}
-use Rattle.std.proofs.lemmas.Bool.{cases_lt}
-use Rattle.std.proofs.lemmas.Fmt.{IsAscii-signed}
-use Rattle.std.proofs.lemmas.Str.{IsUtf8-from_ascii}
-use Rattle.std.proofs.lemmas.List.{take_at, drop_at, get_or_past}
-use Rattle.hex.specs.Hex.{encode_lower, decode_sized, lower_digits, IsBytes}
-use Rattle.hex.proofs.HexLemmas.{length-encode_with, decode_sized-encode_lower}
-use Rattle.hex.specs.declared.error.FromHexError.{FromHexError}
-use Rattle.tree_value.specs.Digests.{IsDigest}
-use Rattle.mill_top.specs.declared.entry.Entry.{Entry}
-use Rattle.mill_top.specs.Entries.{entry_text}
-use lib.Signed.{mag}
+-- Laws of entries that are readable.
+use Rattle.std.proofs.Common.{◌≡◌, ◌≢◌, ℕ, ℤ, ◌<◌, ◌≤◌, ◌==◌, Bool, true, false, List, if◌then◌else◌, Option, Some, None, IfSome, inl, inr, refl, sym, ap, ◌∙◌, subst, arith}
+use Rattle.std.proofs.lemmas.Bool.{eqb-true, eqb-false, cases_lt}
+use Rattle.value_text.specs.Short.{as_short, int}
+use Rattle.out_entry.specs.declared.entry.Entry.{Entry}
+use Rattle.out_entry.specs.Entries.{HasParts}
+use Rattle.out_entry.proofs.EntryText.{entry_text-injective}
+use Rattle.mill_top.specs.declared.takes.Found.TheVariants.{Missing, Other}
+use Rattle.mill_top.specs.Entries.{entry_bytes, IsReadable, IsFound, Reads}
+use Rattle.mill_top.specs.Takes.{Why, IsNextGeneration}
 
-pub digest_bytes : (digest : List ℕ) → IsDigest digest → IsBytes digest
-digest_bytes digest is i =
-    elim (cases_lt i (length digest)) [
-      | inl within ↦ is.within i 0 within
-      | inr past ↦ rw (get_or_past digest i 0 past) (omega arith)
+-- an entry is read back from its bytes
+pub bytes_same : (a b : Entry) → HasParts a → HasParts b → entry_bytes a ≡ entry_bytes b → a ≡ b
+unfolding entry_bytes
+bytes_same a b first second e = entry_text-injective a b first second e
+
+-- one entry is readable at most
+pub readable_same : (task : List ℕ) (there : Option (List ℕ)) (a b : Entry) → IsReadable task there a → IsReadable task there b → a ≡ b
+readable_same task there a b first second =
+    let e : Some (entry_bytes a) ≡ Some (entry_bytes b) = sym first.there ∙ second.there in
+    let bytes : entry_bytes a ≡ entry_bytes b = cc in
+    bytes_same a b first.kept.parts second.kept.parts bytes
+
+-- a generation that a run puts is 1 or 2
+pub generation_small : (task : List ℕ) (there : Option (List ℕ)) (generation : ℕ) → IsNextGeneration task there generation → generation ≤ 2
+generation_small task there generation next =
+    elim (cases_lt 2 generation) [
+      | inl large ↦
+          let first = next.least 1 (omega arith) (omega arith) in
+          let second = next.least 2 (omega arith) large in
+          let same : first.0.generation ≡ second.0.generation = ap (λ (e : Entry). e.generation) (readable_same task there first.0 second.0 first.1 second.1) in
+          let one : first.0.generation ≡ 1 = first.2 in
+          let two : second.0.generation ≡ 2 = second.2 in
+          omega arith
+      | inr small ↦ small
     ]
 
-pub length-hex : (digest : List ℕ) → IsDigest digest → length (encode_lower digest) ≡ 64
-length-hex digest is = length-encode_with lower_digits digest ∙ ap (λ n. 2 * n) is.size
+-- where no entry is readable a run puts generation 1
+next_first : (task : List ℕ) (there : Option (List ℕ)) → IsFound task there None → IsNextGeneration task there 1
+next_first task there none = record {
+  counted = omega arith;
+  free = λ entry readable e. none entry readable;
+  least = λ n low high. absurd (omega arith);
+}
 
-pub decoded : (text digest out : List ℕ) (r : Result (Unit {0}) FromHexError) → text ≡ encode_lower digest → IsDigest digest
-    → MatchResult (decode_sized text 32) (λ bytes. (r ≡ Ok tt) × (out ≡ bytes)) (λ e. r ≡ Err e) → (r ≡ Ok tt) × (out ≡ digest)
-decoded text digest out r same is value =
-    let ok : decode_sized text 32 ≡ Ok digest = ap (λ t. decode_sized t 32) same ∙ decode_sized-encode_lower digest 32 is.size (digest_bytes digest is) in
-    let P : Result (List ℕ) FromHexError → Type 0 = λ d. MatchResult d (λ bytes. (r ≡ Ok tt) × (out ≡ bytes)) (λ e. r ≡ Err e) in
-    subst P ok value
+next_by : (task : List ℕ) (there : Option (List ℕ)) (entry : Entry) (test : Bool) → (entry.generation == 1) ≡ test → IsReadable task there entry
+    → IsNextGeneration task there (if test then 2 else 1)
+next_by task there entry true is readable = record {
+  counted = omega arith;
+  free = λ other reads e.
+      let same : other.generation ≡ entry.generation = ap (λ (e : Entry). e.generation) (readable_same task there other entry reads readable) in
+      let one = eqb-true entry.generation 1 is in
+      omega arith;
+  least = λ n low high. (entry, readable, (let one = eqb-true entry.generation 1 is in omega arith));
+}
+next_by task there entry false is readable = record {
+  counted = omega arith;
+  free = λ other reads e.
+      let same : other.generation ≡ entry.generation = ap (λ (e : Entry). e.generation) (readable_same task there other entry reads readable) in
+      eqb-false entry.generation 1 is (omega arith);
+  least = λ n low high. absurd (omega arith);
+}
 
-pub mag_within : (int : ℤ) → FitsSigned w32 int → mag int < 2 ^ 63
-mag_within int fits = let small = fits.sfits in omega arith
+-- ---- the same of a store that may tell
 
-pub int_text : (int : ℤ) → FitsSigned w32 int → IsUtf8 (signed_decimal int)
-int_text int fits = IsUtf8-from_ascii (signed_decimal int) (IsAscii-signed int (mag_within int fits))
+pub missing_why : (task input : List ℕ) (there : Option (Option (List ℕ))) → IfSome there (λ there. IsFound task there None) → IfSome there (λ there. Why task input there Missing)
+missing_why task input None none = tt
+missing_why task input (Some there) none = λ entry value reads. none entry reads.readable
 
--- the text as what stands before the input hash, the hash and the rest
-after_head : (task : List ℕ) (entry : Entry) → entry_text task entry
-    ≡ codes "{\"dest\":1,\"files\":[],\"input\":\"" ++ (encode_lower entry.input
-    ++ (codes "\",\"task\":\"" ++ (task ++ (codes "\",\"value\":" ++ (signed_decimal entry.value ++ codes ",\"version\":1}")))))
-unfolding entry_text
-after_head task entry = simp append_assoc
+pub missing_next : (task : List ℕ) (there : Option (Option (List ℕ))) → IfSome there (λ there. IsFound task there None) → IfSome there (λ there. IsNextGeneration task there 1)
+missing_next task None none = tt
+missing_next task (Some there) none = next_first task there none
 
--- the text up to the value
-before_value : List ℕ → Entry → List ℕ
-before_value task entry =
-    codes "{\"dest\":1,\"files\":[],\"input\":\"" ++ encode_lower entry.input ++ codes "\",\"task\":\"" ++ task ++ codes "\",\"value\":"
+pub next_generation : (task : List ℕ) (there : Option (Option (List ℕ))) (entry : Entry) → IfSome there (λ there. IsReadable task there entry)
+    → IfSome there (λ there. IsNextGeneration task there (if entry.generation == 1 then 2 else 1))
+next_generation task None entry readable = tt
+next_generation task (Some there) entry readable = next_by task there entry (entry.generation == 1) refl readable
 
-length-before_value : (task : List ℕ) (entry : Entry) → IsDigest entry.input → length (before_value task entry) ≡ 114 + length task
-unfolding before_value
-length-before_value task entry is =
-    let h : length (encode_lower entry.input) ≡ 64 = length-hex entry.input is in
-    simp length-append (omega arith)
+-- an entry that holds no int is no entry of an int
+pub no_int_why : (task input : List ℕ) (there : Option (Option (List ℕ))) (entry : Entry) → IfSome there (λ there. IsReadable task there entry)
+    → ((value : ℤ) → as_short entry.value ≢ int value) → IfSome there (λ there. Why task input there Missing)
+no_int_why task input None entry readable none = tt
+no_int_why task input (Some there) entry readable none = λ other value reads.
+    let same : other ≡ entry = readable_same task there other entry reads.readable readable in
+    none value (ap (λ (e : Entry). as_short e.value) (sym same) ∙ reads.holds)
 
-around_value : (task : List ℕ) (entry : Entry) → entry_text task entry ≡ before_value task entry ++ (signed_decimal entry.value ++ codes ",\"version\":1}")
-unfolding entry_text before_value
-around_value task entry = simp append_assoc
-
-pub length-entry_text : (task : List ℕ) (entry : Entry) → IsDigest entry.input
-    → length (entry_text task entry) ≡ 127 + length task + length (signed_decimal entry.value)
-length-entry_text task entry is =
-    rw (around_value task entry)
-    (simp length-append (omega (arith, length-before_value task entry is)))
-
-pub hash_in : (task : List ℕ) (entry : Entry) → IsDigest entry.input → take 64 (drop 30 (entry_text task entry)) ≡ encode_lower entry.input
-hash_in task entry is =
-    let rest = codes "\",\"task\":\"" ++ (task ++ (codes "\",\"value\":" ++ (signed_decimal entry.value ++ codes ",\"version\":1}"))) in
-    rw (after_head task entry)
-    (ap (take 64) (drop_at (codes "{\"dest\":1,\"files\":[],\"input\":\"") (encode_lower entry.input ++ rest) 30 refl)
-    ∙ take_at (encode_lower entry.input) rest 64 (length-hex entry.input is))
-
-pub value_in : (task : List ℕ) (entry : Entry) (n : ℕ) → IsDigest entry.input → n ≡ length (signed_decimal entry.value)
-    → take n (drop (114 + length task) (entry_text task entry)) ≡ signed_decimal entry.value
-value_in task entry n is len =
-    let tail = signed_decimal entry.value ++ codes ",\"version\":1}" in
-    rw (around_value task entry)
-    (ap (take n) (drop_at (before_value task entry) tail (114 + length task) (length-before_value task entry is))
-    ∙ take_at (signed_decimal entry.value) (codes ",\"version\":1}") n (sym len))
+-- an entry of another input hash
+pub other_why : (task input : List ℕ) (there : Option (Option (List ℕ))) (entry : Entry) (value : ℤ) → IfSome there (λ there. IsReadable task there entry)
+    → as_short entry.value ≡ int value → entry.input ≢ input → IfSome there (λ there. Why task input there (Other entry.input))
+other_why task input None entry value readable holds differs = tt
+other_why task input (Some there) entry value readable holds differs =
+    let reads : Reads task there entry value = record { readable = readable; holds = holds } in
+    (differs, (entry, value, reads, refl))

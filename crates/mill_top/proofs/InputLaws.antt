@@ -1,21 +1,22 @@
 -- Equal input hashes are of equal class files, where no texts collide.
-use Rattle.std.proofs.Common.{◌≡◌, ℕ, zero, suc, ◌+◌, ◌<◌, ◌≤◌, ◌^◌, List, [], ◌∷◌, ◌++◌, length, codes, Contains, flat_map, refl, sym, ap, subst, ◌∙◌, arith, length-append, lit<}
-use Rattle.std.specs.Option.{option_map}
+use Rattle.std.proofs.Common.{◌≡◌, ℕ, ℤ, zero, suc, ◌+◌, ◌<◌, ◌≤◌, ◌^◌, List, [], ◌∷◌, ◌++◌, length, codes, Contains, flat_map, refl, sym, ap, subst, ◌∙◌, arith, length-append, lit<}
+use Rattle.std.specs.Option.{option_map_or}
 use Rattle.std.specs.Fmt.{decimal}
+use Rattle.std.proofs.lemmas.List.{same_from_push}
 use Rattle.std.proofs.lemmas.List.Elements.{Contains-append_left, Contains-append_right}
 use Rattle.hex.specs.Hex.{encode_lower}
 use Rattle.sha2.specs.Sha256.{sha256}
 use Rattle.io_traits.specs.Files.{Files}
+use Rattle.tree_value.specs.Digests.{IsDigest}
 use Rattle.tree_value.specs.Nets.{net}
 use Rattle.tree_value.proofs.NetLemmas.{net-parts, same_net}
 use Rattle.tree_value.proofs.DigestLemmas.{IsDigest-sha256, same_hex}
-use Rattle.mill_top.specs.declared.class_file.SmallFile.{SmallFile}
-use Rattle.mill_top.specs.declared.outcome.Outcome.TheVariants.{Returns}
 use Rattle.mill_top.specs.declared.recorded.Record.{Record}
-use Rattle.mill_top.specs.SmallFiles.{constant}
-use Rattle.mill_top.specs.Builds.{class_files, task_among, task_in}
-use Rattle.mill_top.specs.Inputs.{nets, paths_and_bytes, whole_row, class_of, method_text, input_text, input_hash, Run, texts, Clean, IsDigested}
-use Rattle.mill_top.specs.Scratch.{scratch}
+use Rattle.mill_top.specs.Builds.{class_files, task_file_of}
+use Rattle.mill_top.specs.Graphs.{task_files, task_in, graph_of}
+use Rattle.mill_top.specs.Inputs.{nets, paths_and_bytes, whole_row, method_of, method_text, value_fields, input_text, input_hash, scratch_values, Run, texts, Clean, IsDigested}
+use Rattle.mill_top.specs.Scratch.{scratch, scratch_in}
+use Rattle.std.specs.List.{filter_map}
 
 length-net : (x r : List ℕ) → length (net x ++ r) ≡ length (decimal (length x)) + suc (length x + suc (length r))
 length-net x r = ap length (net-parts x r) ∙ length-append (decimal (length x)) (58 ∷ (x ++ 44 ∷ r)) ∙ ap (λ n. length (decimal (length x)) + suc n) (length-append x (44 ∷ r))
@@ -60,52 +61,67 @@ methods_same : (r s : Record) (task : List ℕ) → length (method_text r task) 
     → method_text r task ≡ method_text s task → class_files r.files ≡ class_files s.files
 unfolding method_text
 methods_same r s task fits e =
-    let front_r : List (List ℕ) = codes "method1" ∷ class_of r task ∷ task ∷ codes "()I" ∷ [] in
-    let front_s : List (List ℕ) = codes "method1" ∷ class_of s task ∷ task ∷ codes "()I" ∷ [] in
+    let front_r : List (List ℕ) = codes "method1" ∷ option_map_or method_of (task_in r.files task) [] in
+    let front_s : List (List ℕ) = codes "method1" ∷ option_map_or method_of (task_in s.files task) [] in
     let lists : front_r ++ whole_row r ∷ [] ≡ front_s ++ whole_row s ∷ [] = nets_same (front_r ++ whole_row r ∷ []) (front_s ++ whole_row s ∷ []) fits e in
-    let row : whole_row r ≡ whole_row s = cc in
+    let row : whole_row r ≡ whole_row s = (same_from_push front_r front_s (whole_row r) (whole_row s) lists).1 in
     let within = part_within front_r [] (whole_row r) in
     rows_same r s (omega (arith, fits, within)) row
 
-hashes_same : (r s : Record) (task : List ℕ) → length (input_text r task) < 2 ^ 64
-    → input_text r task ≡ input_text s task → sha256 (method_text r task) ≡ sha256 (method_text s task)
+hashes_same : (r s : Record) (task : List ℕ) (values others : List ℤ) → length (input_text r task values) < 2 ^ 64
+    → input_text r task values ≡ input_text s task others → sha256 (method_text r task) ≡ sha256 (method_text s task)
 unfolding input_text
-hashes_same r s task fits e =
-    let front : List (List ℕ) = codes "input1" ∷ task ∷ codes "cached" ∷ codes "10000000" ∷ [] in
+hashes_same r s task values others fits e =
     let hex_r = encode_lower (sha256 (method_text r task)) in
     let hex_s = encode_lower (sha256 (method_text s task)) in
-    let lists : front ++ hex_r ∷ [] ≡ front ++ hex_s ∷ [] = nets_same (front ++ hex_r ∷ []) (front ++ hex_s ∷ []) fits e in
+    let all_r : List (List ℕ) = codes "input1" ∷ task ∷ codes "cached" ∷ codes "10000000" ∷ hex_r ∷ flat_map value_fields values in
+    let all_s : List (List ℕ) = codes "input1" ∷ task ∷ codes "cached" ∷ codes "10000000" ∷ hex_s ∷ flat_map value_fields others in
+    let lists : all_r ≡ all_s = nets_same all_r all_s fits e in
     let same : hex_r ≡ hex_s = cc in
     same_hex (sha256 (method_text r task)) (sha256 (method_text s task)) (IsDigest-sha256 (method_text r task)) (IsDigest-sha256 (method_text s task)) same
 
 has_method : (run : Run) → Contains (texts run) (method_text run.inputs run.task)
-has_method run = (0, lit< tt, refl)
+has_method run = (0, omega arith, refl)
 
-has_input : (run : Run) → Contains (texts run) (input_text run.inputs run.task)
-has_input run = (1, lit< tt, refl)
+has_input : (run : Run) → Contains (texts run) (input_text run.inputs run.task (scratch_values run.inputs run.task))
+has_input run = (1, omega arith, refl)
 
-pub in_texts : (runs : List Run) (run : Run) (text : List ℕ) → Contains runs run → Contains (texts run) text → Contains (flat_map texts runs) text
+in_texts : (runs : List Run) (run : Run) (text : List ℕ) → Contains runs run → Contains (texts run) text → Contains (flat_map texts runs) text
 in_texts [] run text (k, within, is) inside = absurd (omega arith)
 in_texts (one ∷ runs) run text (zero, within, is) inside =
     Contains-append_left (texts one) (flat_map texts runs) text (subst (λ own. Contains (texts own) text) (sym is) inside)
 in_texts (one ∷ runs) run text (suc k, within, is) inside =
     Contains-append_right (texts one) (flat_map texts runs) text (in_texts runs run text (k, omega arith, is) inside)
 
+-- a task over equal class files has equal outcomes from scratch
+classes_scratch : (r s : Record) (task : List ℕ) → class_files r.files ≡ class_files s.files → scratch r task ≡ scratch s task
+unfolding scratch task_files
+classes_scratch r s task same = ap (λ files. scratch_in (graph_of (filter_map (λ file. task_file_of file.1) files)) task) same
+
 -- two runs of a task with equal input hashes have equal outcomes from scratch
-pub same_scratch : (all : List Run) (one other : Run) → Clean (flat_map texts all) → Contains all one → Contains all other → IsDigested one.inputs one.task → one.task ≡ other.task
-    → input_hash one.inputs one.task ≡ input_hash other.inputs other.task → scratch one.inputs one.task ≡ scratch other.inputs other.task
-unfolding input_hash task_in
+pub same_scratch : (all : List Run) (one other : Run) → Clean (flat_map texts all) → Contains all one → Contains all other
+    → IsDigested one.inputs one.task (scratch_values one.inputs one.task) → one.task ≡ other.task
+    → input_hash one.inputs one.task (scratch_values one.inputs one.task) ≡ input_hash other.inputs other.task (scratch_values other.inputs other.task)
+    → scratch one.inputs one.task ≡ scratch other.inputs other.task
+unfolding input_hash
 same_scratch all one other clean has_one has_other digested same_task e =
     let task = one.task in
     let run : Run = record { inputs = other.inputs; task = task } in
+    let values_one = scratch_values one.inputs task in
+    let values_run = scratch_values other.inputs task in
     let has_run : Contains all run = subst (Contains all) (λ i. record { inputs = other.inputs; task = sym same_task i }) has_other in
-    let hash : sha256 (input_text one.inputs task) ≡ sha256 (input_text other.inputs task) = e ∙ ap (λ t. sha256 (input_text other.inputs t)) (sym same_task) in
-    let in_one = in_texts all one (input_text one.inputs task) has_one (has_input one) in
-    let in_other = in_texts all run (input_text other.inputs task) has_run (has_input run) in
-    let inputs = clean (input_text one.inputs task) (input_text other.inputs task) in_one in_other hash in
-    let methods = hashes_same one.inputs other.inputs task digested.input inputs in
+    let hash : sha256 (input_text one.inputs task values_one) ≡ sha256 (input_text other.inputs task values_run) = e ∙ ap (λ t. sha256 (input_text other.inputs t (scratch_values other.inputs t))) (sym same_task) in
+    let in_one = in_texts all one (input_text one.inputs task values_one) has_one (has_input one) in
+    let in_run = in_texts all run (input_text other.inputs task values_run) has_run (has_input run) in
+    let inputs = clean (input_text one.inputs task values_one) (input_text other.inputs task values_run) in_one in_run hash in
+    let methods = hashes_same one.inputs other.inputs task values_one values_run digested.input inputs in
     let m_one = in_texts all one (method_text one.inputs task) has_one (has_method one) in
-    let m_other = in_texts all run (method_text other.inputs task) has_run (has_method run) in
-    let method = clean (method_text one.inputs task) (method_text other.inputs task) m_one m_other methods in
+    let m_run = in_texts all run (method_text other.inputs task) has_run (has_method run) in
+    let method = clean (method_text one.inputs task) (method_text other.inputs task) m_one m_run methods in
     let classes = methods_same one.inputs other.inputs task digested.method method in
-    ap (λ cs. option_map (λ (f : SmallFile). Returns (constant f.opcode) []) (task_among cs task)) classes ∙ ap (scratch other.inputs) same_task
+    classes_scratch one.inputs other.inputs task classes ∙ ap (scratch other.inputs) same_task
+
+-- the input hash of a task is a digest
+pub hash_digest : (inputs : Record) (task : List ℕ) (values : List ℤ) → IsDigest (input_hash inputs task values)
+unfolding input_hash
+hash_digest inputs task values = IsDigest-sha256 (input_text inputs task values)

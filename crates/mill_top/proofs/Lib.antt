@@ -2,6 +2,7 @@ pub mod SmallFileLaws
 pub mod LinkedFileLaws
 pub mod FindLaws
 pub mod TableLaws
+pub mod TaskLaws
 pub mod GraphLaws
 pub mod WayLaws
 pub mod CycleLaws
@@ -9,10 +10,12 @@ pub mod PlanLaws
 pub mod ScratchLaws
 pub mod SendingLaws
 pub mod ReadingLaws
-pub mod EntryLaws
-pub mod TaskLaws
 pub mod PathLaws
-pub mod AnswerLaws
+pub mod EntryLaws
+pub mod TakingLaws
 pub mod InputLaws
+pub mod WalkLaws
+pub mod ValueLaws
 pub mod StandingLaws
+pub mod AnswerLaws
 pub mod TopLaws

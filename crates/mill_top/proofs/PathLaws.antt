@@ -1,11 +1,12 @@
 -- The names of a task's files are paths.
-use Rattle.std.proofs.Common.{◌≡◌, ℕ, zero, suc, ◌<◌, ◌≤◌, ◌==◌, Bool, true, false, List, [], ◌∷◌, length, codes, Contains, All, IsAscii, refl, sym, subst, inr, arith, lit<}
+use Rattle.std.proofs.Common.{◌≡◌, ℕ, zero, suc, ◌<◌, ◌≤◌, ◌==◌, Bool, true, false, List, [], ◌∷◌, length, codes, Contains, All, IsAscii, IsUtf8, refl, sym, subst, inr, arith, lit<}
 use Rattle.std.specs.List.{AllByRecursion, slice_split}
 use Rattle.std.specs.Str.{byte}
 use Rattle.std.proofs.lemmas.Bool.{eqb-true}
 use Rattle.std.proofs.lemmas.Str.{IsUtf8-from_ascii}
 use Rattle.std.proofs.lemmas.List.Elements.{All-from_recursion}
 use Rattle.tree_value.specs.Paths.{IsPath, IsSegment}
+use Rattle.mill_top.specs.Entries.{HasNames}
 
 -- a byte of ASCII that is neither NUL nor a slash
 pub record IsPlain (b : ℕ) : Type 0 where
@@ -61,3 +62,10 @@ pub log_path : (t : ℕ) → 97 ≤ t → t ≤ 122 → IsPath (t ∷ codes ".lo
 log_path t low high =
     plain_path t 46 108 (111 ∷ 103 ∷ []) (omega arith)
     (plain_letter t low high, (record { above = lit< tt; below = lit< tt; no_slash = refl }, (record { above = lit< tt; below = lit< tt; no_slash = refl }, (record { above = lit< tt; below = lit< tt; no_slash = refl }, (record { above = lit< tt; below = lit< tt; no_slash = refl }, tt)))))
+
+-- a letter is a text
+pub letter_text : (t : ℕ) → 97 ≤ t → t ≤ 122 → IsUtf8 (t ∷ [])
+letter_text t low high = IsUtf8-from_ascii (t ∷ []) (plain_ascii (t ∷ []) (plain_letter t low high, tt))
+
+pub letter_names : (t : ℕ) → 97 ≤ t → t ≤ 122 → HasNames (t ∷ [])
+letter_names t low high = record { entry = entry_path t low high; log = log_path t low high }

@@ -1,10 +1,11 @@
 -- The entry of a task in the folder of results, and its log.
-use Rattle.std.specs.Prelude.{◌≡◌, ℕ, List, ◌++◌, codes, Option, Some, None, FitsSigned}
-use Rattle.std.specs.Int.{w32}
-use Rattle.std.specs.Fmt.{signed_decimal}
-use Rattle.hex.specs.Hex.{encode_lower}
-use Rattle.tree_value.specs.Digests.{IsDigest}
-use Rattle.mill_top.specs.declared.entry.Entry.{Entry}
+use Rattle.std.specs.Prelude.{◌≡◌, ℕ, ℤ, List, ◌++◌, codes, Option, Some, None}
+use Rattle.std.specs.Option.{option_map}
+use Rattle.io_traits.specs.Files.{Files, get}
+use Rattle.tree_value.specs.Paths.{IsPath}
+use Rattle.value_text.specs.Short.{as_short, int}
+use Rattle.out_entry.specs.declared.entry.Entry.{Entry}
+use Rattle.out_entry.specs.Entries.{entry_text, Keeps}
 
 abbrev pub entry_name : List ℕ → List ℕ
 entry_name task = task ++ codes ".json"
@@ -12,30 +13,31 @@ entry_name task = task ++ codes ".json"
 abbrev pub log_name : List ℕ → List ℕ
 log_name task = task ++ codes ".log"
 
--- the text of a task's entry, which is compact JSON (RFC 8259)
-unfoldable pub entry_text : List ℕ → Entry → List ℕ
-entry_text task entry =
-    codes "{\"dest\":1,\"files\":[],\"input\":\"" ++ encode_lower entry.input
-    ++ codes "\",\"task\":\"" ++ task
-    ++ codes "\",\"value\":" ++ signed_decimal entry.value
-    ++ codes ",\"version\":1}"
+-- the names of a task's files are paths
+pub record HasNames (task : List ℕ) : Type 0 where
+  pub entry : IsPath (entry_name task)
+  pub log : IsPath (log_name task)
 
--- a digest, and an int of 32 bits
-pub record IsWellFormed (entry : Entry) : Type 0 where
-  pub input : IsDigest entry.input
-  pub value : FitsSigned w32 entry.value
+-- what stands under a task's entry name, where the store tells
+abbrev pub entry_at : Option Files → List ℕ → Option (Option (List ℕ))
+entry_at content task = option_map (λ files. get files (entry_name task)) content
 
--- what stands under a task's entry name reads as this entry
-pub record Reads (task : List ℕ) (found : Option (List ℕ)) (entry : Entry) : Type 0 where
-  pub form : IsWellFormed entry
-  pub text : found ≡ Some (entry_text task entry)
+-- the bytes of an entry
+unfoldable pub entry_bytes : Entry → List ℕ
+entry_bytes entry = entry_text entry
 
--- the entry that reads there, if one does
+-- what stands under a task's entry name is the bytes of this entry of the task
+pub record IsReadable (task : List ℕ) (found : Option (List ℕ)) (entry : Entry) : Type 0 where
+  pub there : found ≡ Some (entry_bytes entry)
+  pub kept : Keeps (entry_bytes entry) entry
+  pub own : entry.task ≡ task
+
+-- the entry that is readable there, if one is
 abbrev pub IsFound : List ℕ → Option (List ℕ) → Option Entry → Type 0
-IsFound task found None = (entry : Entry) → Reads task found entry → ⊥
-IsFound task found (Some entry) = Reads task found entry
+IsFound task found None = (entry : Entry) → IsReadable task found entry → ⊥
+IsFound task found (Some entry) = IsReadable task found entry
 
--- the names under which a task's entry and its log stand
-pub record IsNamed (task entry log : List ℕ) : Type 0 where
-  pub entry_is : entry ≡ entry_name task
-  pub log_is : log ≡ log_name task
+-- the entry is readable there and holds this int, as the value of a task is one
+pub record Reads (task : List ℕ) (found : Option (List ℕ)) (entry : Entry) (value : ℤ) : Type 0 where
+  pub readable : IsReadable task found entry
+  pub holds : as_short entry.value ≡ int value

@@ -1,10 +1,10 @@
 pub mod SmallFiles
 pub mod LinkedFiles
-pub mod Words
-pub mod Builds
 pub mod Graphs
 pub mod Tables
 pub mod Chains
+pub mod Words
+pub mod Builds
 pub mod Scratch
 pub mod Inputs
 pub mod Entries
@@ -13,3 +13,4 @@ pub mod Replies
 pub mod Standing
 pub mod Out
 pub mod Answers
+pub mod Walks

@@ -1,55 +1,61 @@
 -- What runs leave in the folder of results.
-use Rattle.std.specs.Prelude.{◌≡◌, ◌⊎◌, ℕ, List, [], ◌∷◌, Option, Some, None}
+use Rattle.std.specs.Prelude.{◌≡◌, ◌⊎◌, ℕ, ℤ, List, [], ◌∷◌, Option}
 use Rattle.io_traits.specs.Files.{Files, put_in, LeftByPut}
-use Rattle.mill_top.specs.declared.entry.Entry.{Entry}
+use Rattle.tree_value.specs.declared.value.Value.TheVariants.{Int}
+use Rattle.out_entry.specs.declared.entry.Entry.{Entry}
 use Rattle.mill_top.specs.declared.outcome.Outcome.{Outcome}
 use Rattle.mill_top.specs.declared.outcome.Outcome.TheVariants.{Returns}
-use Rattle.mill_top.specs.declared.recorded.Record.{Record}
 use Rattle.mill_top.specs.declared.takes.Found.{Found}
 use Rattle.mill_top.specs.declared.takes.Found.TheVariants.{Same}
-use Rattle.mill_top.specs.Entries.{entry_name, log_name, entry_text}
-use Rattle.mill_top.specs.Inputs.{input_hash}
-use Rattle.mill_top.specs.Scratch.{scratch}
-
--- the entry of a run with this input hash and outcome
-abbrev pub entry_of : List ℕ → Outcome → Entry
-entry_of input (Returns value log) = record { input = input; value = value }
+use Rattle.mill_top.specs.Entries.{entry_name, log_name, entry_bytes}
+use Rattle.mill_top.specs.Takes.{Take}
 
 abbrev pub log_of : Outcome → List ℕ
 log_of (Returns value log) = log
 
--- the content with the log of a run
-abbrev pub with_log : List ℕ → Outcome → Option Files → Option Files
-with_log task outcome content = put_in (log_name task) (log_of outcome) content
+-- the content with the log of a run, and then with its entry
+abbrev pub with_log : Entry → List ℕ → Option Files → Option Files
+with_log entry log content = put_in (log_name entry.task) log content
 
--- and with its entry
-abbrev pub with_run : List ℕ → List ℕ → Outcome → Option Files → Option Files
-with_run task input outcome content = put_in (entry_name task) (entry_text task (entry_of input outcome)) (with_log task outcome content)
+abbrev pub published : Entry → List ℕ → Option Files → Option Files
+published entry log content = put_in (entry_name entry.task) (entry_bytes entry) (with_log entry log content)
 
 -- what may be left where a run's log and then its entry are put, also where this ends early
-abbrev pub MayLeaveRun : List ℕ → List ℕ → Outcome → Option Files → Option Files → Type 0
-MayLeaveRun task input outcome old new =
-    LeftByPut (log_name task) (log_of outcome) old new
-    ⊎ LeftByPut (entry_name task) (entry_text task (entry_of input outcome)) (with_log task outcome old) new
+abbrev pub MayLeaveRun : Entry → List ℕ → Option Files → Option Files → Type 0
+MayLeaveRun entry log old new =
+    LeftByPut (log_name entry.task) log old new ⊎ LeftByPut (entry_name entry.task) (entry_bytes entry) (with_log entry log old) new
 
--- the content after a take: as it was where the entry was reused, or with the log and the entry of the run
-abbrev pub after_take : Record → List ℕ → Found → Option Outcome → Option Files → Option Files
-after_take inputs task (Same input) outcome content = content
-after_take inputs task found None content = content
-after_take inputs task found (Some outcome) content = with_run task (input_hash inputs task) outcome content
+-- the entry of a run with an int as its value, and without files, since no body makes any yet
+abbrev pub entry_with : (task input : List ℕ) → ℕ → ℤ → Entry
+entry_with task input generation value = record { task = task; input = input; generation = generation; files = []; value = Int value }
 
-abbrev pub after_takes : Record → List (List ℕ × Found) → Option Files → Option Files
-after_takes inputs [] content = content
-after_takes inputs (take ∷ takes) content = after_takes inputs takes (after_take inputs take.0 take.1 (scratch inputs take.0) content)
+-- the entry that the run of a take puts
+abbrev pub entry_of : Take → Entry
+entry_of take = entry_with take.task take.input take.generation take.value
 
-abbrev pub MayLeaveTake : Record → List ℕ → Found → Option Outcome → Option Files → Option Files → Type 0
-MayLeaveTake inputs task (Same input) outcome old new = new ≡ old
-MayLeaveTake inputs task found None old new = new ≡ old
-MayLeaveTake inputs task found (Some outcome) old new = MayLeaveRun task (input_hash inputs task) outcome old new
+-- the content after a take: as it was where the entry was reused, or with the log and the entry of the run; no body logs
+-- anything yet
+abbrev pub after : Found → Take → Option Files → Option Files
+after (Same input) take content = content
+after found take content = published (entry_of take) [] content
 
--- what may be left after takes, of which the last may have ended early
-abbrev pub MayLeave : Record → List (List ℕ × Found) → Option Files → Option Files → Type 0
-MayLeave inputs [] old new = new ≡ old
-MayLeave inputs (take ∷ []) old new = MayLeaveTake inputs take.0 take.1 (scratch inputs take.0) old new
-MayLeave inputs (take ∷ next ∷ takes) old new =
-    MayLeave inputs (next ∷ takes) (after_take inputs take.0 take.1 (scratch inputs take.0) old) new
+abbrev pub after_take : Take → Option Files → Option Files
+after_take take content = after take.found take content
+
+-- the content after takes, the latest first
+abbrev pub after_takes : List Take → Option Files → Option Files
+after_takes [] content = content
+after_takes (take ∷ earlier) content = after_take take (after_takes earlier content)
+
+abbrev pub MayLeaveAfter : Found → Take → Option Files → Option Files → Type 0
+MayLeaveAfter (Same input) take old new = new ≡ old
+MayLeaveAfter found take old new = MayLeaveRun (entry_of take) [] old new
+
+-- what a take may leave, also where it ended early
+abbrev pub MayLeaveTake : Take → Option Files → Option Files → Type 0
+MayLeaveTake take old new = MayLeaveAfter take.found take old new
+
+-- what may be left after takes, the latest first, of which that one may have ended early
+abbrev pub MayLeave : List Take → Option Files → Option Files → Type 0
+MayLeave [] old new = new ≡ old
+MayLeave (take ∷ earlier) old new = MayLeaveTake take (after_takes earlier old) new

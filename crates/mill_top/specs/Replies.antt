@@ -1,20 +1,29 @@
 -- The reply to a command, and what is printed.
-use Rattle.std.specs.Prelude.{◌≡◌, ℕ, List, [], ◌∷◌, ◌++◌, flat_map, take, codes, Option, Some, None, ◌⊎◌}
+use Rattle.std.specs.Prelude.{◌≡◌, ℕ, ℤ, Bool, true, List, [], ◌∷◌, ◌++◌, flat_map, fold, take, codes, Option, Some, None, ◌⊎◌}
+use Rattle.std.specs.BTreeMap.{insert_entry}
 use Rattle.std.specs.Fmt.{signed_decimal}
 use Rattle.io_traits.specs.Streams.{Got}
+use Rattle.tree_value.specs.Trees.{path_cmp}
+use Rattle.mill_top.specs.declared.build_fault.BuildFault.{BuildFault}
+use Rattle.mill_top.specs.declared.build_fault.BuildFault.TheVariants as fault
 use Rattle.mill_top.specs.declared.outcome.Outcome.{Outcome}
 use Rattle.mill_top.specs.declared.outcome.Outcome.TheVariants.{Returns}
 use Rattle.mill_top.specs.declared.recorded.Record.{Record}
 use Rattle.mill_top.specs.declared.reply.Reply.{Reply}
-use Rattle.mill_top.specs.declared.reply.Reply.TheVariants.{Value, WordsNotBuilt, FileNotBuilt, NoTask, StoreFault, WorkspaceFault, Memory}
+use Rattle.mill_top.specs.declared.reply.Reply.TheVariants.{Value, WordsNotBuilt, FileNotBuilt, DuplicateTask, UnknownInput, Cycle, NoTask, StoreFault, WorkspaceFault, Memory}
+use Rattle.mill_top.specs.declared.takes.Found.{Found}
+use Rattle.mill_top.specs.declared.takes.Found.TheVariants.{Missing, Other, Same}
 use Rattle.mill_top.specs.Words.{asked}
-use Rattle.mill_top.specs.Builds.{not_built}
+use Rattle.mill_top.specs.Graphs.{refusal_of_build}
 use Rattle.mill_top.specs.Scratch.{scratch}
 
 abbrev pub status : Reply → ℕ
 status (Value value) = 0
 status WordsNotBuilt = 2
 status (FileNotBuilt path) = 3
+status (DuplicateTask task) = 3
+status (UnknownInput input task) = 3
+status (Cycle task) = 3
 status (NoTask task) = 2
 status StoreFault = 4
 status WorkspaceFault = 5
@@ -24,40 +33,69 @@ abbrev pub line : Reply → List ℕ
 line (Value value) = signed_decimal value
 line WordsNotBuilt = codes "not built: words"
 line (FileNotBuilt path) = codes "not built: " ++ path
+line (DuplicateTask task) = codes "build: duplicate task " ++ task ∷ []
+line (UnknownInput input task) = codes "build: unknown input " ++ input ∷ (codes " of " ++ task ∷ [])
+line (Cycle task) = codes "build: cycle through " ++ task ∷ []
 line (NoTask task) = codes "no task: " ++ task
 line StoreFault = codes "store fault"
 line WorkspaceFault = codes "workspace fault"
 line Memory = codes "memory"
 
--- the lines of the shown replies, each with a line feed behind it
-unfoldable pub printed : List Reply → List ℕ
-printed replies = flat_map (λ reply. line reply ++ 10 ∷ []) replies
+-- what `--explain` says of a task: a line with the reason, where it ran
+abbrev pub explained : List ℕ → Found → List ℕ
+explained task Missing = task ++ codes " ran: missing\n"
+explained task (Other input) = task ++ codes " ran: changed\n"
+explained task (Same input) = []
 
--- why a record is refused: the file for which its files are no build yet, or else that it has no such task
-abbrev pub refusal_by : List ℕ → Option (List ℕ) → Option Outcome → Option Reply
-refusal_by task (Some path) outcome = Some (FileNotBuilt path)
+-- tasks in byte order of their names, each with what was found last
+abbrev pub in_name_order : List (List ℕ × Found) → List (List ℕ × Found)
+in_name_order takes = fold (λ ordered take. insert_entry path_cmp ordered take.0 take.1) [] takes
+
+unfoldable pub explanation : List (List ℕ × Found) → List ℕ
+explanation takes = flat_map (λ take. explained take.0 take.1) (in_name_order takes)
+
+-- where a value is the reply, and `--explain` is asked for, the explanation stands before it
+abbrev pub before_line : Bool → List (List ℕ × Found) → Reply → List ℕ
+before_line true takes (Value value) = explanation takes
+before_line _ takes reply = []
+
+-- all that is printed for a reply, after these takes: the reply's line, with a line feed behind it, after the explanation
+unfoldable pub printed : Bool → List (List ℕ × Found) → Reply → List ℕ
+printed explains takes reply = before_line explains takes reply ++ line reply ++ 10 ∷ []
+
+-- the reply where a build is refused
+abbrev pub build_reply : BuildFault → Reply
+build_reply (fault.NotBuilt path) = FileNotBuilt path
+build_reply (fault.DuplicateTask task) = DuplicateTask task
+build_reply (fault.UnknownInput input task) = UnknownInput input task
+build_reply (fault.Cycle task) = Cycle task
+build_reply fault.Memory = Memory
+
+-- why a record is refused: its build is, or else it has no such task
+abbrev pub refusal_by : List ℕ → Option BuildFault → Option Outcome → Option Reply
+refusal_by task (Some refused) outcome = Some (build_reply refused)
 refusal_by task None None = Some (NoTask task)
 refusal_by task None (Some outcome) = None
 
 abbrev pub refusal : Record → List ℕ → Option Reply
-refusal inputs task = refusal_by task (not_built inputs.files) (scratch inputs task)
+refusal inputs task = refusal_by task (refusal_of_build inputs.files) (scratch inputs task)
 
-abbrev pub reply_by : List ℕ → Option (List ℕ) → Option Outcome → Reply
-reply_by task (Some path) outcome = FileNotBuilt path
+abbrev pub reply_by : List ℕ → Option BuildFault → Option Outcome → Reply
+reply_by task (Some refused) outcome = build_reply refused
 reply_by task None None = NoTask task
 reply_by task None (Some (Returns value log)) = Value value
 
 abbrev pub words_reply : Record → Option (List ℕ) → Reply
 words_reply inputs None = WordsNotBuilt
-words_reply inputs (Some task) = reply_by task (not_built inputs.files) (scratch inputs task)
+words_reply inputs (Some task) = reply_by task (refusal_of_build inputs.files) (scratch inputs task)
 
 -- the reply that evaluation from scratch over a record gives to its words
 unfoldable pub reply_of : Record → Reply
 reply_of inputs = words_reply inputs (asked inputs.words)
 
--- The sink that had `before` has all that is printed for the replies, and the status is that of the last; or it has a
--- front part of it, and the status is 7.
-abbrev pub Shown : (before after : Option (List ℕ)) → Reply → ℕ → Type 0
-Shown before after reply status_now =
-    ((status_now ≡ status reply) × Got before after (printed (reply ∷ [])))
-    ⊎ ((status_now ≡ 7) × ((n : ℕ) × Got before after (take n (printed (reply ∷ [])))))
+-- The sink that had `before` has all of the text behind it, and the status is that of the reply; or it has a front part
+-- of the text, and the status is 7.
+abbrev pub Shown : (before after : Option (List ℕ)) → List ℕ → Reply → ℕ → Type 0
+Shown before after text reply status_now =
+    ((status_now ≡ status reply) × Got before after text)
+    ⊎ ((status_now ≡ 7) × ((n : ℕ) × Got before after (take n text)))

@@ -1,17 +1,19 @@
 //! The program `mill`: it evaluates a build that is given as Java class files, keeps the results in `out` and reuses
 //! them. The top call is `mill_one` of the module `top`, over the traits of `io_traits`; this file makes the devices of
-//! `io_real` for it. It stands on `tree_value`, `io_traits` and `io_real`, and on `sha2` and `hex`.
+//! `io_real` for it. It stands on `tree_value`, `value_text`,
+//! `out_entry`, `io_traits` and `io_real`, and on `sha2` and `hex`.
 #![tactic(auto)]
 
 mod build_fault;
 mod builds;
-mod entry;
+mod entries;
 mod evaluating;
 mod graph;
 mod inputs;
 mod linked_file;
 mod operation;
 mod outcome;
+mod printing;
 mod program;
 mod reading;
 mod recorded;
@@ -19,6 +21,7 @@ mod reply;
 mod sending;
 mod small_file;
 mod takes;
+mod taking;
 mod task_file;
 mod top;
 mod words;

@@ -4,7 +4,7 @@ ghost use Rattle.std.specs.Prelude.{◌≡◌, []};
 ghost use Rattle.mill_top.specs.declared.outcome.Outcome.TheVariants.{Returns};
 ghost use Rattle.mill_top.specs.Scratch.{result_of};
 
-use crate::task_file::TaskFile;
+use crate::task_file::Body;
 use std::alloc::Global;
 use tree_value::Bytes;
 
@@ -15,12 +15,9 @@ pub enum Outcome {
     Returns(i32, Bytes),
 }
 
-/// Runs the task of a small file.
-pub fn run(alloc: Global, class_file: TaskFile) -> Outcome
-    ensures { result ≡ Outcome.Returns (result_of class_file.body None) [] }
+/// Runs a body, given the value of its input, if it has one.
+pub fn run(alloc: Global, body: Body, given: Option<i32>) -> Outcome
+    ensures { result ≡ Outcome.Returns (result_of body given) [] }
 {
-    Outcome::Returns(
-        class_file.body.result(None),
-        Bytes::from_vec(Vec::new(alloc)),
-    )
+    Outcome::Returns(body.result(given), Bytes::from_vec(Vec::new(alloc)))
 }

@@ -1,7 +1,7 @@
 //! The reply to a command.
 
 ghost use Rattle.std.specs.Prelude.{◌≡◌, ◌++◌, ◌∷◌, [], IfOk};
-ghost use Rattle.mill_top.specs.Replies.{status, line, printed};
+ghost use Rattle.mill_top.specs.Replies.{status, line};
 
 use std::alloc::{AllocError, Global};
 use tree_value::{Path, Text};
@@ -15,6 +15,12 @@ pub enum Reply {
     WordsNotBuilt,
     /// The class file at the path is none that is read so far.
     FileNotBuilt(Path),
+    /// Two class files have the task.
+    DuplicateTask(u8),
+    /// No class file has the input of the task.
+    UnknownInput { input: u8, task: u8 },
+    /// Inputs lead from the task back to it.
+    Cycle(u8),
     /// The build has no such task.
     NoTask(Text),
     /// The folder of results failed.
@@ -33,6 +39,15 @@ fn joined(alloc: Global, front: &[u8], back: &[u8]) -> Result<Vec<u8>, AllocErro
     Ok(text)
 }
 
+fn unknown_input(alloc: Global, input: u8, task: u8) -> Result<Vec<u8>, AllocError>
+    ensures { IfOk result (λ text. text.items ≡ line (Reply.UnknownInput input task)) }
+{
+    let mut text = joined(alloc, b"build: unknown input ", &[input])?;
+    text.extend_from_slice(b" of ")?;
+    text.extend_from_slice(&[task])?;
+    Ok(text)
+}
+
 impl Reply {
     /// The status that the process ends with.
     pub fn status(&self) -> u8
@@ -41,34 +56,31 @@ impl Reply {
         match self {
             Reply::Value(_) => 0,
             Reply::WordsNotBuilt | Reply::NoTask(_) => 2,
-            Reply::FileNotBuilt(_) => 3,
+            Reply::FileNotBuilt(_)
+            | Reply::DuplicateTask(_)
+            | Reply::UnknownInput { .. }
+            | Reply::Cycle(_) => 3,
             Reply::StoreFault => 4,
             Reply::WorkspaceFault => 5,
             Reply::Memory => 6,
         }
     }
 
-    fn line(&self, alloc: Global) -> Result<Vec<u8>, AllocError>
+    /// The reply's line, without a line feed.
+    pub fn line(&self, alloc: Global) -> Result<Vec<u8>, AllocError>
         ensures { IfOk result (λ text. text.items ≡ line self.now) }
     {
         match self {
             Reply::Value(value) => joined(alloc, b"", value.to_string(alloc)?.as_bytes()),
             Reply::WordsNotBuilt => joined(alloc, b"not built: words", b""),
             Reply::FileNotBuilt(path) => joined(alloc, b"not built: ", path.as_slice()),
+            Reply::DuplicateTask(task) => joined(alloc, b"build: duplicate task ", &[*task]),
+            Reply::UnknownInput { input, task } => unknown_input(alloc, *input, *task),
+            Reply::Cycle(task) => joined(alloc, b"build: cycle through ", &[*task]),
             Reply::NoTask(task) => joined(alloc, b"no task: ", task.as_slice()),
             Reply::StoreFault => joined(alloc, b"store fault", b""),
             Reply::WorkspaceFault => joined(alloc, b"workspace fault", b""),
             Reply::Memory => joined(alloc, b"memory", b""),
         }
-    }
-
-    /// What is printed where this is the one reply.
-    #[tactic(auto, unfolding(crate::specs::Replies::printed))]
-    pub fn printed(&self, alloc: Global) -> Result<Vec<u8>, AllocError>
-        ensures { IfOk result (λ text. text.items ≡ printed (self.now ∷ [])) }
-    {
-        let mut text = self.line(alloc)?;
-        text.extend_from_slice(b"\n")?;
-        Ok(text)
     }
 }

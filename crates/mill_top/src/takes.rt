@@ -1,8 +1,8 @@
 //! Why tasks were run or reused.
 
-ghost use Rattle.std.specs.Prelude.{◌≡◌, ◌∷◌, [], IfOk};
+ghost use Rattle.std.specs.Prelude.{◌≡◌, ◌++◌, ◌∷◌, [], OnOk, OnErr};
 
-use std::alloc::{AllocError, Global};
+use std::alloc::{AllocFailed, Global};
 use std::marker::Model;
 use tree_value::{Digest, Text};
 
@@ -42,13 +42,12 @@ impl Takes {
         }
     }
 
-    /// One task.
-    pub fn one(alloc: Global, task: Text, found: Found) -> Result<Takes, AllocError>
-        ensures { IfOk result (λ takes. takes ≡ (task, found) ∷ []) }
+    /// Adds a task at the end.
+    pub fn push(&mut self, task: Text, found: Found) -> Result<(), AllocFailed<(Text, Found)>>
+        ensures ok { OnOk result (self.new ≡ self.old ++ (task, found) ∷ []) }
+        ensures err { OnErr result (self.new ≡ self.old) }
     {
-        let mut items = Vec::new(alloc);
-        items.push((task, found))?;
-        Ok(Takes { items })
+        self.items.push((task, found))
     }
 
     /// The tasks in the order in which they were taken.

@@ -1,28 +1,29 @@
 //! The top call.
 
-ghost use Rattle.std.specs.Prelude.{◌≡◌, ◌⊎◌, ◌++◌, [], ℕ, List, take, Some, None, Option, IfOk, IfErr, IfSome, IsNone};
+ghost use Rattle.std.specs.Prelude.{◌≡◌, ◌⊎◌, ◌++◌, [], ℕ, List, take, Some, None, Option, IfOk, IfErr, IfSome, IsSome, IsNone, OnOk};
 ghost use Rattle.io_traits.specs.Causes.{Rose, HasCause};
 ghost use Rattle.io_traits.specs.Streams.{Got};
-ghost use Rattle.mill_top.specs.Graphs.{refusal_of_build, task_in};
-ghost use Rattle.mill_top.specs.Words.{asked};
+ghost use Rattle.mill_top.specs.Graphs.{refusal_of_build, named, plan, plan_in};
+ghost use Rattle.mill_top.specs.Words.{asked, explains};
 ghost use Rattle.mill_top.specs.Inputs.{Run, Clean};
-ghost use Rattle.mill_top.specs.Replies.{status, refusal, Shown};
+ghost use Rattle.mill_top.specs.Replies.{status, build_reply, refusal, printed, Shown};
 ghost use Rattle.mill_top.specs.Standing.{StandsIn};
 ghost use Rattle.mill_top.specs.Answers.{IsUnlessMemory, IsRecordOf, IsUnread, IsAnswer, IsAnswerTo, IsFromScratch, runs_in, all_texts, IsKept};
 
 use crate::build_fault::BuildFault;
 use crate::evaluating::{Taken, evaluate};
-use crate::graph::graph_of;
+use crate::graph::{Graph, graph_of};
+use crate::printing::printed;
 use crate::reading::read_files;
 use crate::recorded::{Record, Variables, Words};
 use crate::reply::Reply;
 use crate::sending::send;
 use crate::takes::Takes;
 use crate::task_file::TaskFile;
-use crate::words::asked;
+use crate::words::{asked, explains};
 use io_traits::{IoFault, Sink, Store, Workspace};
 use std::alloc::Global;
-use tree_value::{Path, Text};
+use tree_value::Text;
 
 /// What a command ends with: its status, the reply that was shown, the tasks that were taken, the record that was
 /// read, if any, and the devices.
@@ -45,12 +46,15 @@ struct Answer {
     inputs: Option<Record>,
 }
 
-fn file_not_built(path: &Path) -> Reply
-    ensures { IsUnlessMemory result (Reply.FileNotBuilt path.now) }
+fn build_reply(fault: BuildFault) -> Reply
+    ensures { result ≡ build_reply fault }
 {
-    match path.copy() {
-        Ok(path) => Reply::FileNotBuilt(path),
-        Err(_) => Reply::Memory,
+    match fault {
+        BuildFault::NotBuilt(path) => Reply::FileNotBuilt(path),
+        BuildFault::DuplicateTask(task) => Reply::DuplicateTask(task),
+        BuildFault::UnknownInput { input, task } => Reply::UnknownInput { input, task },
+        BuildFault::Cycle(task) => Reply::Cycle(task),
+        BuildFault::Memory => Reply::Memory,
     }
 }
 
@@ -63,18 +67,27 @@ fn no_task(task: &Text) -> Reply
     }
 }
 
-// The small file that has the task, or why the record is refused.
-fn choose(alloc: Global, inputs: &Record, task: &Text) -> Result<TaskFile, Reply>
-    ensures ok { IfOk result (λ class_file. (refusal_of_build inputs.now.files ≡ None) × (task_in inputs.now.files task.now ≡ Some class_file)) }
-    ensures err { IfErr result (λ reply. (refused : Reply) × (refusal inputs.now task.now ≡ Some refused) × IsUnlessMemory reply refused) }
+// The plan of a task of the graph, or that there is no such task.
+fn plan_of(alloc: Global, graph: &Graph, task: &Text) -> Result<Vec<TaskFile>, Reply>
+    ensures known { OnOk result (IsSome (named graph.now task.now)) }
+    ensures plan { IfOk result (λ planned. planned.items ≡ plan_in graph.now task.now) }
+    ensures err { IfErr result (λ reply. (reply ≡ Reply.Memory) ⊎ ((named graph.now task.now ≡ None) × (reply ≡ Reply.NoTask task.now))) }
+{
+    match graph.plan(alloc, task) {
+        Ok(Some(plan)) => Ok(plan),
+        Ok(None) => Err(no_task(task)),
+        Err(_) => Err(Reply::Memory),
+    }
+}
+
+// The plan of the task, or why the record is refused.
+fn choose(alloc: Global, inputs: &Record, task: &Text) -> Result<Vec<TaskFile>, Reply>
+    ensures ok { IfOk result (λ planned. (refusal inputs.now task.now ≡ None) × (planned.items ≡ plan inputs.now.files task.now)) }
+    ensures err { IfErr result (λ reply. (reply ≡ Reply.Memory) ⊎ (refusal inputs.now task.now ≡ Some reply)) }
 {
     match graph_of(alloc, inputs.files.as_slice()) {
-        Err(BuildFault::NotBuilt(path)) => Err(file_not_built(&path)),
-        Err(_) => Err(Reply::Memory),
-        Ok(graph) => match graph.named(task) {
-            Some(class_file) => Ok(class_file),
-            None => Err(no_task(task)),
-        },
+        Ok(graph) => plan_of(alloc, &graph, task),
+        Err(fault) => Err(build_reply(fault)),
     }
 }
 
@@ -83,7 +96,7 @@ fn taken<S: Store>(alloc: Global, inputs: &Record, task: &Text, store: &mut S) -
     ensures kept { S.kept store.new ≡ S.kept store.old }
 {
     match choose(alloc, inputs, task) {
-        Ok(class_file) => evaluate(alloc, inputs, class_file, task, store),
+        Ok(plan) => evaluate(alloc, inputs, task, plan.as_slice(), store),
         Err(reply) => Taken::none(alloc, reply),
     }
 }
@@ -171,13 +184,19 @@ fn send_all<K: Sink>(sink: &mut K, text: &[u8], status: u8) -> u8
 
 // Shows the reply, or that memory is wanted.
 #[tactic(auto, unfolding(crate::specs::Replies::printed))]
-fn show<K: Sink>(alloc: Global, sink: &mut K, reply: Reply) -> (u8, Reply)
+fn show<K: Sink>(
+    alloc: Global,
+    sink: &mut K,
+    explains: bool,
+    takes: &Takes,
+    reply: Reply,
+) -> (u8, Reply)
     ensures reply { IsUnlessMemory result.1 reply }
-    ensures shown { Shown (K.got sink.old) (K.got sink.new) result.1 result.0 }
+    ensures shown { Shown (K.got sink.old) (K.got sink.new) (printed explains takes.now result.1) result.1 result.0 }
     ensures fault { result.0 ≡ 7 → Rose (K.faults sink.old) (K.faults sink.new) }
     ensures kept { K.kept sink.new ≡ K.kept sink.old }
 {
-    match reply.printed(alloc) {
+    match printed(alloc, explains, takes, &reply) {
         Ok(text) => (send_all(sink, text.as_slice(), reply.status()), reply),
         Err(_) => (send_all(sink, b"memory\n", 6), Reply::Memory),
     }
@@ -187,18 +206,19 @@ fn show<K: Sink>(alloc: Global, sink: &mut K, reply: Reply) -> (u8, Reply)
 pub fn refuse<K: Sink + Drop>(alloc: Global, mut sink: K, reply: Reply) -> u8
     ensures { (result ≡ status reply) ⊎ ((result ≡ 6) ⊎ (result ≡ 7)) }
 {
-    show(alloc, &mut sink, reply).0
+    show(alloc, &mut sink, false, &Takes::none(alloc), reply).0
 }
 
 /// Runs one command over its devices, on this thread.
 ///
-/// The words are `-j 1 show TASK`; the workspace's class files, if it has any, are one small file in its place.
-/// The task is reused where its entry reads and has its input hash; otherwise it is run, and its log and then its
-/// entry are put. The reply goes to the sink.
+/// The words are `-j 1 show TASK`, or `-j 1 --explain show TASK`, which says before the value which tasks ran, and why.
+/// The workspace's class files are small and linked files, each in its place. The tasks of the plan are taken in order,
+/// each once: a task is reused where its entry is readable and has its input hash; otherwise it is run, and its log and
+/// then its entry are put. The reply goes to the sink.
 ///
 /// The replies and their statuses: the value (0); words of another form (2); the workspace failed (5); a class file
-/// that is none that is read so far (3); no such task (2); the store failed (4); memory was wanted (6). Where the sink
-/// fails the status is 7.
+/// that is none that is read so far, a task that two files have, an unknown input, a cycle (3); no such task (2); the
+/// store failed (4); memory was wanted (6). Where the sink fails the status is 7.
 pub fn mill_one<S: Store, W: Workspace, K: Sink>(
     alloc: Global,
     words: &[Text],
@@ -210,7 +230,7 @@ pub fn mill_one<S: Store, W: Workspace, K: Sink>(
 ) -> Told<S, W, K>
     // The sink has the reply behind what it had, and the status is the reply's; or a front part of it, and the status
     // is 7, only where the sink's count rose.
-    ensures shown { Shown (K.got sink) (K.got result.sink) result.reply result.status }
+    ensures shown { Shown (K.got sink) (K.got result.sink) (printed (explains words.now) result.takes result.reply) result.reply result.status }
     ensures sink_fault { result.status ≡ 7 → Rose (K.faults sink) (K.faults result.sink) }
 
     // Without a record the words are refused or the workspace failed, and nothing is taken.
@@ -219,14 +239,14 @@ pub fn mill_one<S: Store, W: Workspace, K: Sink>(
     // A record has what was handed in and what the workspace tells.
     ensures record_of { IfSome result.inputs (IsRecordOf words.now environment.now moment (W.content workspace)) }
 
-    // With a record: when each reply comes, the one take with its reason, and what it leaves in the store.
+    // With a record: when each reply comes, the takes with their reasons and values, and what they leave in the store.
     ensures answer { IfSome result.inputs (λ inputs. IsAnswerTo words.now inputs (S.faults store) (S.faults result.store) (S.content store) (S.content result.store) result.reply result.takes) }
 
     // Where the store stands for runs and no texts collide, the reply is that of evaluation from scratch.
-    ensures from_scratch { (runs : List Run) (lost : List (List ℕ)) (task : List ℕ) → asked words.now ≡ Some task → StandsIn (S.content store) runs lost → IfSome result.inputs (λ inputs. Clean (all_texts inputs task runs) → IsFromScratch inputs result.reply) }
+    ensures from_scratch { (runs : List Run) (lost : List (List ℕ)) → StandsIn (S.content store) runs lost → IfSome result.inputs (λ inputs. Clean (all_texts inputs runs) → IsFromScratch inputs result.reply) }
 
     // Afterwards it stands for these and the runs of this call, after a fault too.
-    ensures stands { (runs : List Run) (lost : List (List ℕ)) → StandsIn (S.content store) runs lost → StandsIn (S.content result.store) (runs ++ runs_in result.inputs result.takes) lost }
+    ensures stands { (runs : List Run) (lost : List (List ℕ)) → StandsIn (S.content store) runs lost → IfSome result.inputs (λ inputs. Clean (all_texts inputs runs)) → StandsIn (S.content result.store) (runs ++ runs_in result.inputs result.takes) lost }
 
     // The workspace tells what it told, and what each device keeps is as it was or as the device was handed in.
     ensures workspace { W.content result.workspace ≡ W.content workspace }
@@ -246,7 +266,7 @@ pub fn mill_one<S: Store, W: Workspace, K: Sink>(
         &mut store,
         &mut workspace,
     );
-    let (status, reply) = show(alloc, &mut sink, reply);
+    let (status, reply) = show(alloc, &mut sink, explains(words), &takes, reply);
     Told {
         status,
         reply,

@@ -3,7 +3,7 @@
 ghost use Rattle.std.specs.Prelude.{◌≡◌, slice_index};
 ghost use Rattle.std.specs.Option.{option_copied};
 ghost use Rattle.std.specs.List.{list_all};
-ghost use Rattle.mill_top.specs.Words.{is_letter, is_name_byte, is_segment, asked};
+ghost use Rattle.mill_top.specs.Words.{is_letter, is_name_byte, is_segment, is_explain, without_explain, shown, asked, explains};
 
 use tree_value::Text;
 
@@ -40,22 +40,58 @@ fn is_segment(bytes: &[u8]) -> bool
     begins_with_letter(bytes) && are_name_bytes(bytes) && bytes.len() <= 64
 }
 
-/// The task of the words `-j 1 show TASK`.
-pub fn asked(words: &[Text]) -> Option<&Text>
-    ensures { option_copied result ≡ asked words.now }
+fn is_explain(word: &Text) -> bool
+    ensures { result ≡ is_explain word.now }
+{
+    word.as_slice() == b"--explain".as_slice()
+}
+
+fn without_explain(words: &[Text]) -> &[Text]
+    ensures { result.now ≡ without_explain words.now }
 {
     match words {
-        [option, workers, verb, task] => {
-            if option.as_slice() == b"-j".as_slice()
-                && workers.as_slice() == b"1".as_slice()
-                && verb.as_slice() == b"show".as_slice()
-                && is_segment(task.as_slice())
-            {
+        [word, rest @ ..] => { if is_explain(word) { rest } else { words } }
+        [] => words,
+    }
+}
+
+fn shown(words: &[Text]) -> Option<&Text>
+    ensures { option_copied result ≡ shown words.now }
+{
+    match words {
+        [verb, task] => {
+            if verb.as_slice() == b"show".as_slice() && is_segment(task.as_slice()) {
                 Some(task)
             } else {
                 None
             }
         }
         _ => None,
+    }
+}
+
+/// The task of the words `-j 1 show TASK` and `-j 1 --explain show TASK`.
+pub fn asked(words: &[Text]) -> Option<&Text>
+    ensures { option_copied result ≡ asked words.now }
+{
+    match words {
+        [option, workers, rest @ ..] => {
+            if option.as_slice() == b"-j".as_slice() && workers.as_slice() == b"1".as_slice() {
+                shown(without_explain(rest))
+            } else {
+                None
+            }
+        }
+        _ => None,
+    }
+}
+
+/// Whether `--explain` stands behind `-j 1`.
+pub fn explains(words: &[Text]) -> bool
+    ensures { result ≡ explains words.now }
+{
+    match words {
+        [_, _, word, ..] => is_explain(word),
+        _ => false,
     }
 }

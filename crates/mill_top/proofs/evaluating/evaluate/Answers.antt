@@ -1,23 +1,49 @@
-use Rattle.std.proofs.Common.{length, [], subst, ap, refl, ◌∙◌, arith}
-use Rattle.mill_top.specs.declared.outcome.Outcome.TheVariants.{Returns}
-use Rattle.mill_top.specs.SmallFiles.{constant}
-use Rattle.mill_top.specs.Answers.{IsTake}
-use Rattle.mill_top.proofs.TaskLaws.{task_is}
-use Rattle.mill_top.proofs.AnswerLaws.{accepted, take_answer, nothing_answer, memory_nothing}
+use Rattle.std.proofs.Common.{[], Some, Err, IfSome, FitsSigned, sym, ap, subst}
+use Rattle.std.specs.Int.{w32}
+use Rattle.std.proofs.lemmas.Int.{to_z-of_z}
+use Rattle.mill_top.specs.declared.reply.Reply.TheVariants.{Value}
+use Rattle.mill_top.specs.Answers.{IsAnswer}
+use Rattle.mill_top.specs.Chains.{IsChain}
+use Rattle.mill_top.specs.Walks.{IsWalked}
+use Rattle.mill_top.proofs.AnswerLaws.{evaluated_answer, walked_evaluated, stopped_evaluated, walked_some, accepted_file}
+use Rattle.mill_top.proofs.PlanLaws.{plan-chain}
 use Rattle.mill_top.proofs.evaluating.evaluate.Goals as goal
 
-pub take-requires-clause-short : goal.take-requires-clause-short
-take-requires-clause-short g c = omega (arith, ap length (c.in-Ok.ensures.task ∙ task_is _ _ _ c.requires.known))
+pub take_all-requires-clause-chain : goal.take_all-requires-clause-chain
+take_all-requires-clause-chain g c =
+    let own = accepted_file c.args.inputs.now c.args.task.now c.requires.accepted in
+    subst (IsChain c.args.inputs.now.files []) (sym c.requires.is_plan) (plan-chain c.args.inputs.now.files c.args.task.now own.1.0 own.0 own.1.1)
 
-pub returns-in-Ok-clause-answer : goal.returns-in-Ok-clause-answer
-returns-in-Ok-clause-answer g c =
-    let ok = accepted c.args.inputs.now c.args.task.now c.args.class_file c.requires.built c.requires.known in
-    let take = subst (λ task. IsTake task c.in-Ok.job.input (Returns (constant c.args.class_file.opcode) []) (g.S.Store.faults c.args.store.now) (g.S.Store.faults c.take.new.store)
-    (g.S.Store.content c.args.store.now) (g.S.Store.content c.take.new.store) c.take.result.reply c.take.result.takes) c.in-Ok.ensures.task c.take.ensures.take in
-    take_answer c.args.inputs.now c.args.task.now c.in-Ok.job.input _ _ _ _ _ _ _ ok.0 c.in-Ok.ensures.digested ok.1 c.in-Ok.ensures.input take
+pub unreachable-requires : goal.unreachable-requires
+unreachable-requires g c =
+    let own = accepted_file c.args.inputs.now c.args.task.now c.requires.accepted in
+    walked_some c.args.inputs.now c.args.task.now own.1.0 c.args.planned.now (g.S.Store.content c.args.store.now) (g.S.Store.content c.take_all.new.store) c.take_all.new.takes
+    c.requires.is_plan own.0 own.1.1
+    (subst (λ value. IsWalked c.args.inputs.now c.args.planned.now (g.S.Store.content c.args.store.now) (g.S.Store.content c.take_all.new.store) c.take_all.new.takes [] value)
+    c.in-Ok-None.field-0-is c.in-Ok-None.ensures.ok)
+
+pub returns-in-Ok-Some-clause-answer : goal.returns-in-Ok-Some-clause-answer
+returns-in-Ok-Some-clause-answer g c =
+    let own = accepted_file c.args.inputs.now c.args.task.now c.requires.accepted in
+    let before = g.S.Store.faults c.args.store.now in
+    let now = g.S.Store.faults c.take_all.new.store in
+    let old = g.S.Store.content c.args.store.now in
+    let new = g.S.Store.content c.take_all.new.store in
+    let takes = c.take_all.new.takes in
+    let fits : FitsSigned w32 c.in-Ok-Some.value = subst (λ value. IfSome value (FitsSigned w32)) c.in-Ok-Some.field-0-is c.in-Ok-Some.ensures.fits in
+    let walked : IsWalked c.args.inputs.now c.args.planned.now old new takes [] (Some c.in-Ok-Some.value) =
+    subst (λ value. IsWalked c.args.inputs.now c.args.planned.now old new takes [] value) c.in-Ok-Some.field-0-is c.in-Ok-Some.ensures.ok in
+    subst (λ value. IsAnswer c.args.inputs.now c.args.task.now before now old new (Value value) takes) (sym (to_z-of_z w32 c.in-Ok-Some.value fits))
+    (evaluated_answer c.args.inputs.now c.args.task.now before now old new (Value c.in-Ok-Some.value) takes c.requires.accepted
+    (walked_evaluated c.args.inputs.now c.args.task.now own.1.0 c.args.planned.now before now old new takes c.in-Ok-Some.value c.requires.is_plan own.0 own.1.1 walked))
 
 pub returns-in-Err-clause-answer : goal.returns-in-Err-clause-answer
 returns-in-Err-clause-answer g c =
-    let ok = accepted c.args.inputs.now c.args.task.now c.args.class_file c.requires.built c.requires.known in
-    nothing_answer c.args.inputs.now c.args.task.now _ _ _ _ _ _ ok.0
-    (memory_nothing _ _ _ _ _ _ (ap (λ taken. taken.reply) c.none.ensures) (ap (λ taken. taken.takes) c.none.ensures) refl)
+    let before = g.S.Store.faults c.args.store.now in
+    let now = g.S.Store.faults c.take_all.new.store in
+    let old = g.S.Store.content c.args.store.now in
+    let new = g.S.Store.content c.take_all.new.store in
+    let takes = c.take_all.new.takes in
+    evaluated_answer c.args.inputs.now c.args.task.now before now old new c.store_reply.result takes c.requires.accepted
+    (stopped_evaluated c.args.inputs.now c.args.task.now c.args.planned.now before now old new c.store_reply.result takes c.requires.is_plan
+    c.store_reply.ensures.reply (λ fault. c.in-Err.ensures.cause.failed (ap (λ f. Err f) (c.store_reply.ensures.cause fault))) c.store_reply.ensures.no_value c.in-Err.ensures.err)

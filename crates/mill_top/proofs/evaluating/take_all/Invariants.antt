@@ -1,0 +1,12 @@
+use Rattle.std.proofs.Common.{◌≡◌, ◌≤◌, drop, IfSome, FitsSigned}
+use Rattle.std.specs.Int.{w32}
+use Rattle.mill_top.specs.Walks.{IsWalked}
+use Rattle.mill_top.proofs.evaluating.take_all.Given as goal
+
+abbrev pub invariant-loop-file : goal.invariant-loop-file
+invariant-loop-file g l = record {
+  walked : IsWalked l.inputs l.plan (g.S.Store.content l.initial.store) (g.S.Store.content l.store) l.takes (drop l.file-index l.plan) l.given;
+  fits : IfSome l.given (FitsSigned w32);
+  later : g.S.Store.faults l.initial.store ≤ g.S.Store.faults l.store;
+  kept : g.S.Store.kept l.store ≡ g.S.Store.kept l.initial.store;
+}
