@@ -1,7 +1,7 @@
 //! The program `mill`: it evaluates a build that is given as Java class files, keeps the results in `out` and reuses
 //! them. The top call is `mill_one` of the module `top`, over the traits of `io_traits`; this file makes the devices of
-//! `io_real` for it. It stands on `tree_value`, `value_text`,
-//! `out_entry`, `io_traits` and `io_real`, and on `sha2` and `hex`.
+//! `io_real` for it. It stands on `tree_value`, `value_text`, `out_entry`, `io_traits` and `io_real`, and on `sha2` and
+//! `hex`.
 #![tactic(auto)]
 
 mod build_fault;
@@ -9,6 +9,8 @@ mod builds;
 mod entries;
 mod evaluating;
 mod graph;
+#[cfg(test)]
+mod graph_tests;
 mod inputs;
 mod linked_file;
 mod operation;
@@ -23,6 +25,8 @@ mod small_file;
 mod takes;
 mod taking;
 mod task_file;
+#[cfg(test)]
+mod tests;
 mod top;
 mod words;
 

@@ -1,6 +1,6 @@
 //! The top call over devices in memory, row by row.
 
-use crate::class_file::TEMPLATE;
+use crate::small_file::SMALL_TEMPLATE;
 use crate::top::mill_one;
 use io_traits::{Contents, Leaves, MemSink, MemStore, MemWorkspace};
 use std::alloc::{AllocGlobal, Global};
@@ -15,9 +15,9 @@ const KEPT_5: &str =
 const KEPT_6: &str =
     "{\"dest\":1,\"files\":[],\"input\":\"54f86bfb9a35f9cb2611c512699b1ef30f8e5c10ff34e0eb67cff30c1613775a\",\"task\":\"a\",\"value\":6,\"version\":1}";
 
-// The same over the file whose opcode is 2.
+// The same over the file whose opcode is 2, in the generation behind that.
 const KEPT_LESS: &str =
-    "{\"dest\":1,\"files\":[],\"input\":\"6e22d8743d0573375f52c324e38cd50642eb239071b88c2aa60ba8dce2c7f7f2\",\"task\":\"a\",\"value\":-1,\"version\":1}";
+    "{\"dest\":2,\"files\":[],\"input\":\"6e22d8743d0573375f52c324e38cd50642eb239071b88c2aa60ba8dce2c7f7f2\",\"task\":\"a\",\"value\":-1,\"version\":1}";
 
 // No call of a device is planned to fail.
 const NEVER: u64 = 0;
@@ -55,7 +55,7 @@ struct Seen {
 }
 
 fn class_file(alloc: Global, opcode: u8) -> Result<Bytes, Fail> {
-    let mut bytes = Vec::from_slice(alloc, &TEMPLATE)?;
+    let mut bytes = Vec::from_slice(alloc, &SMALL_TEMPLATE)?;
     if let Some(place) = bytes.get_mut(139) {
         *place = opcode;
     }
