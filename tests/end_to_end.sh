@@ -58,48 +58,85 @@ hash() {
     sha256sum "$1" | cut -d ' ' -f 1
 }
 
-# The input hash of the task `a` of class A, over the class file at this path.
+# The row of the class files of the current folder: the path and the bytes of each, in path order.
+row() {
+    net W
+    for file in classes/*.class; do
+        net "$file"
+        net_file "$file"
+    done
+}
+
+# The input hash of a task without inputs: its class and its name.
 input_hash() {
-    { net W; net "$1"; net_file "$1"; } >"$work/row"
-    { net method1; net A; net a; net '()I'; net_file "$work/row"; } >"$work/method"
-    { net input1; net a; net cached; net 10000000; net "$(hash "$work/method")"; } >"$work/input"
+    row >"$work/row"
+    { net method1; net "$1"; net "$2"; net '()I'; net_file "$work/row"; } >"$work/method"
+    { net input1; net "$2"; net cached; net 10000000; net "$(hash "$work/method")"; } >"$work/input"
     hash "$work/input"
 }
 
-entry() {
-    printf '{"dest":1,"files":[],"input":"%s","task":"a","value":%s,"version":1}' "$1" "$2"
+# The input hash of a task with one input: its class, its name and the input's value.
+linked_hash() {
+    row >"$work/row"
+    printf '%s' "$3" >"$work/value"
+    { net method1; net "$1"; net "$2"; net '(I)I'; net_file "$work/row"; } >"$work/method"
+    {
+        net input1; net "$2"; net cached; net 10000000; net "$(hash "$work/method")"
+        net v; net "$(hash "$work/value")"
+    } >"$work/input"
+    hash "$work/input"
 }
 
-# The entry and the log of the task `a`, and nothing else, are in `out`.
-expect_out() {
+# The entry of a task: its name, its generation, its input hash and its value.
+entry() {
+    printf '{"dest":%s,"files":[],"input":"%s","task":"%s","value":%s,"version":1}' "$2" "$3" "$1" "$4"
+}
+
+# The entry and the log of the task are in `out` as wanted: its name, its generation, its input hash and its value.
+expect_entry() {
     name=$1
-    entry "$2" "$3" >"$work/entry"
+    shift
+    entry "$@" >"$work/entry"
     : >"$work/log"
+    same "$name: entry of $1" "$work/entry" "out/$1.json"
+    same "$name: log of $1" "$work/log" "out/$1.log"
+}
+
+# The entries and the logs of these tasks, and nothing else, are in `out`.
+expect_files() {
+    name=$1
+    shift
+    for task in "$@"; do
+        printf 'out/%s.json\nout/%s.log\n' "$task" "$task"
+    done >"$work/wanted_files"
     find out -type f | sort >"$work/files"
-    printf 'out/a.json\nout/a.log\n' >"$work/wanted_files"
     same "$name: files of out" "$work/wanted_files" "$work/files"
-    same "$name: entry" "$work/entry" out/a.json
-    same "$name: log" "$work/log" out/a.log
 }
 
 fresh first
-hash=$(input_hash classes/A.class)
+hash=$(input_hash A a)
 expect "first run" 0 5 -j 1 show a
-expect_out "first run" "$hash" 5
+expect_entry "first run" a 1 "$hash" 5
+expect_files "first run" a
 inode=$(ls -i out/a.json)
 expect "second run" 0 5 -j 1 show a
-expect_out "second run" "$hash" 5
+expect_entry "second run" a 1 "$hash" 5
+expect_files "second run" a
 if [ "$(ls -i out/a.json)" != "$inode" ]; then
     echo "second run: the entry was put again"
     failed=1
 fi
 
-entry "$hash" 6 >out/a.json
+entry a 1 "$hash" 6 >out/a.json
 expect "a read of the entry" 0 6 -j 1 show a
 
 set_byte classes/A.class 139 002
 expect "a constant of -1" 0 -1 -j 1 show a
-expect_out "a constant of -1" "$(input_hash classes/A.class)" -1
+expect_entry "a constant of -1" a 2 "$(input_hash A a)" -1
+rm out/a.json
+expect "a lost entry" 0 "a ran: missing
+-1" -j 1 --explain show a
+expect "a kept entry" 0 -1 -j 1 --explain show a
 
 fresh first
 expect "other words" 2 "not built: words" -j 2 show a
@@ -110,15 +147,44 @@ expect "another constant" 3 "not built: classes/A.class" -j 1 show a
 set_byte classes/A.class 139 010
 mv classes/A.class classes/B.class
 expect "a class in another's place" 3 "not built: classes/B.class" -j 1 show a
-cp classes/B.class classes/A.class
+cp "$top/examples/first/classes/A.class" classes
 set_byte classes/B.class 13 102
-expect "two classes" 3 "not built: classes/B.class" -j 1 show a
+expect "two classes of one task" 3 "build: duplicate task a" -j 1 show a
 rm -r classes
 expect "no class" 2 "no task: a" -j 1 show a
 if [ -e out/a.json ]; then
     echo "a refused build: there is an entry"
     failed=1
 fi
+
+fresh linked
+expect "a linked task" 0 10 -j 1 show b
+expect_entry "a linked task" a 1 "$(input_hash A a)" 5
+expect_entry "a linked task" b 1 "$(linked_hash B b 5)" 10
+expect_files "a linked task" a b
+expect "a kept linked task" 0 10 -j 1 --explain show b
+set_byte classes/A.class 139 007
+expect "an edit of the input" 0 "a ran: changed
+b ran: changed
+9" -j 1 --explain show b
+expect_entry "an edit of the input" a 2 "$(input_hash A a)" 4
+expect_entry "an edit of the input" b 2 "$(linked_hash B b 4)" 9
+rm out/a.json
+expect "a lost entry of the input" 0 "a ran: missing
+9" -j 1 --explain show b
+expect_entry "a lost entry of the input" b 2 "$(linked_hash B b 4)" 9
+rm -r out
+set_byte classes/B.class 155 144
+expect "the input alone" 0 4 -j 1 show a
+expect_files "the input alone" a
+expect "a difference" 0 -1 -j 1 show b
+set_byte classes/B.class 118 143
+expect "an input that no file has" 3 "build: unknown input c of b" -j 1 show b
+set_byte classes/B.class 118 142
+expect "a task that is its own input" 3 "build: cycle through b" -j 1 show a
+rm classes/A.class
+set_byte classes/B.class 118 141
+expect "an input whose file is gone" 3 "build: unknown input a of b" -j 1 show b
 
 if [ "$failed" = 0 ]; then
     echo "end to end: passed"
