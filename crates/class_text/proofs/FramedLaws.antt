@@ -55,34 +55,34 @@ module _ (pool : Pool) (few : IsFew pool) (stand : Place) (barred : Bool) (conte
   judged : List Attribute → ℕ → ℕ → Reader ℕ
   judged before at n end bytes =
       cond (is_first (is_known stand) bytes_eq (map (attribute_name pool) before) (text_of pool n))
-        (cond (barred && bytes_eq (codes "Code") (text_of pool n)) (Err (bad_attribute at)) (Ok (n, bytes)))
-        (Err (second_attribute at))
+      (cond (barred && bytes_eq (codes "Code") (text_of pool n)) (Err (bad_attribute at)) (Ok (n, bytes)))
+      (Err (second_attribute at))
 
   judged_reads : (before : List Attribute) (at n : ℕ) → Reads (judged before at n) (λ m. (is_first (is_known stand) bytes_eq (map (attribute_name pool) before) (text_of pool n) ≡ true) × (((barred && bytes_eq (codes "Code") (text_of pool n)) ≡ false) × (m ≡ n))) (λ m. [])
   unfolding judged
   judged_reads before at n =
       unless_reads (is_first (is_known stand) bytes_eq (map (attribute_name pool) before) (text_of pool n)) (second_attribute at) (λ end bytes. cond (barred && bytes_eq (codes "Code") (text_of pool n)) (Err (bad_attribute at)) (Ok (n, bytes))) _ _
-        (λ first. except_reads (barred && bytes_eq (codes "Code") (text_of pool n)) (bad_attribute at) (λ end bytes. Ok (n, bytes)) (λ m. m ≡ n) (λ m. []) (λ plain. give_reads n))
+      (λ first. except_reads (barred && bytes_eq (codes "Code") (text_of pool n)) (bad_attribute at) (λ end bytes. Ok (n, bytes)) (λ m. m ≡ n) (λ m. []) (λ plain. give_reads n))
 
   named_reads : (before : List Attribute) → Reads (named_at pool stand barred before) (IsNew before) (to_be_bytes w16)
   unfolding named_at judged IsNew
   named_reads before =
       here_reads (λ at. bind (index_at (is_text pool)) (judged before at)) (IsNew before) (to_be_bytes w16) (λ at.
-        as_reads (bind (index_at (is_text pool)) (judged before at)) _ _ (IsNew before) (to_be_bytes w16)
-          (bind_reads (index_at (is_text pool)) (λ n. is_text pool n ≡ true) (to_be_bytes w16) (judged before at) (λ n m. (is_first (is_known stand) bytes_eq (map (attribute_name pool) before) (text_of pool n) ≡ true) × (((barred && bytes_eq (codes "Code") (text_of pool n)) ≡ false) × (m ≡ n))) (λ n m. []) (λ m. m)
-            (text_reads pool few) (λ n named. judged_reads before at n) (λ n m q. q.1.1))
-          (λ n p. (p.0, (p.1.0, p.1.1.0))) (λ n q. (q.0, (q.1.0, (q.1.1, refl)))) (λ n q. append-nil (to_be_bytes w16 n)))
+      as_reads (bind (index_at (is_text pool)) (judged before at)) _ _ (IsNew before) (to_be_bytes w16)
+      (bind_reads (index_at (is_text pool)) (λ n. is_text pool n ≡ true) (to_be_bytes w16) (judged before at) (λ n m. (is_first (is_known stand) bytes_eq (map (attribute_name pool) before) (text_of pool n) ≡ true) × (((barred && bytes_eq (codes "Code") (text_of pool n)) ≡ false) × (m ≡ n))) (λ n m. []) (λ m. m)
+      (text_reads pool few) (λ n named. judged_reads before at n) (λ n m q. q.1.1))
+      (λ n p. (p.0, (p.1.0, p.1.1.0))) (λ n q. (q.0, (q.1.0, (q.1.1, refl)))) (λ n q. append-nil (to_be_bytes w16 n)))
 
   pub attribute_reads : (before : List Attribute) → Reads (attribute_by content pool stand barred before) (λ a. IsOne a × IsBeside before a) framed
   unfolding attribute_by sized IsNew is_first
   attribute_reads before =
       here_reads (λ at. bind (named_at pool stand barred before) (λ n. sized n at)) (λ a. IsOne a × IsBeside before a) framed (λ at.
-        as_reads (bind (named_at pool stand barred before) (λ n. sized n at)) (λ a. IsNew before (name a) × ((length (s a) < 2 ^ 32) × (((name a ≡ name a) × Form a) × (length (s a) ≡ length (s a))))) (λ a. to_be_bytes w16 (name a) ++ (to_be_bytes w32 (length (s a)) ++ s a)) (λ a. IsOne a × IsBeside before a) framed
-          (bind_reads (named_at pool stand barred before) (IsNew before) (to_be_bytes w16) (λ n. sized n at) (λ n a. (length (s a) < 2 ^ 32) × (((name a ≡ n) × Form a) × (length (s a) ≡ length (s a)))) (λ n a. to_be_bytes w32 (length (s a)) ++ s a) name
-            (named_reads before) (λ n new. sized_reads n at new.0) (λ n a q. q.1.0.0))
-          (λ a p. ((p.1.1.0.1, p.1.0), (p.0.1.0, p.0.1.1)))
-          (λ a q. ((has_name a q.0.0, (q.1.0, q.1.1)), (q.0.1, ((refl, q.0.0), refl))))
-          (λ a q. sym (append_assoc (to_be_bytes w16 (name a)) (to_be_bytes w32 (length (s a))) (s a))))
+      as_reads (bind (named_at pool stand barred before) (λ n. sized n at)) (λ a. IsNew before (name a) × ((length (s a) < 2 ^ 32) × (((name a ≡ name a) × Form a) × (length (s a) ≡ length (s a))))) (λ a. to_be_bytes w16 (name a) ++ (to_be_bytes w32 (length (s a)) ++ s a)) (λ a. IsOne a × IsBeside before a) framed
+      (bind_reads (named_at pool stand barred before) (IsNew before) (to_be_bytes w16) (λ n. sized n at) (λ n a. (length (s a) < 2 ^ 32) × (((name a ≡ n) × Form a) × (length (s a) ≡ length (s a)))) (λ n a. to_be_bytes w32 (length (s a)) ++ s a) name
+      (named_reads before) (λ n new. sized_reads n at new.0) (λ n a q. q.1.0.0))
+      (λ a p. ((p.1.1.0.1, p.1.0), (p.0.1.0, p.0.1.1)))
+      (λ a q. ((has_name a q.0.0, (q.1.0, q.1.1)), (q.0.1, ((refl, q.0.0), refl))))
+      (λ a q. sym (append_assoc (to_be_bytes w16 (name a)) (to_be_bytes w32 (length (s a))) (s a))))
 
   -- counted attributes, where `Each` says of an attribute what `Form` and the length do
   pub attributes_read : (Each : Attribute → Type 0) → ((a : Attribute) → IsOne a → Each a) → ((a : Attribute) → Each a → IsOne a) → (spell : Attribute → List ℕ) → ((a : Attribute) → framed a ≡ spell a)

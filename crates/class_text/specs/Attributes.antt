@@ -88,9 +88,9 @@ unfoldable pub named_at : Pool → Place → Bool → List Attribute → Reader 
 named_at pool stand barred before end bytes =
     index_at (is_text pool) end bytes
     >>= (λ name.
-      if is_first (is_known stand) bytes_eq (map (attribute_name pool) before) (text_of pool name.0) then
-        if barred && bytes_eq (codes "Code") (text_of pool name.0) then Err (bad_attribute (place end bytes)) else Ok name
-      else Err (second_attribute (place end bytes)))
+    if is_first (is_known stand) bytes_eq (map (attribute_name pool) before) (text_of pool name.0) then
+    if barred && bytes_eq (codes "Code") (text_of pool name.0) then Err (bad_attribute (place end bytes)) else Ok name
+    else Err (second_attribute (place end bytes)))
 
 -- an attribute, whose content is read by its name and the place where the attribute stands
 unfoldable pub attribute_by : (ℕ → ℕ → Reader Attribute) → Pool → Place → Bool → List Attribute → Reader Attribute
