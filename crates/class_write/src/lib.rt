@@ -1,0 +1,6 @@
+//! Writing a class file (JVMS chapter 4).
+#![tactic(auto)]
+
+mod frames;
+mod indices;
+mod order;
