@@ -1,3 +1,4 @@
 pub mod Order
 pub mod Misfits
 pub mod FrameText
+pub mod Contents

@@ -67,6 +67,9 @@ frames pool id = counted (at id items.Frames) (λ n f. frame pool (at id (items.
 abbrev pub handler : Pool → Part → Handler → Option WriteFault
 handler pool part h = unless (h.catch_type == 0 || is_some_that is_class_constant (constant_at pool h.catch_type)) (BadShape part)
 
+abbrev pub handlers : Pool → AttributeId → List Handler → Option WriteFault
+handlers pool id = counted (at id items.Handlers) (λ n h. handler pool (at id (items.Handler n)) h)
+
 -- JVMS 4.7.23
 abbrev pub argument : Pool → Part → ℕ → Option WriteFault
 argument pool part index = unless (is_some_that is_loadable (constant_at pool index)) (BadShape part)
@@ -75,22 +78,33 @@ unfoldable pub bootstrap : Pool → Part → Bootstrap → Option WriteFault
 bootstrap pool part b =
     unless (is_some_that is_handle (constant_at pool b.handle)) (BadShape part) <|> counted part (λ n index. argument pool part index) b.arguments
 
--- JVMS 4.7.16; `value` looks at the values
+abbrev pub bootstraps : Pool → AttributeId → List Bootstrap → Option WriteFault
+bootstraps pool id = counted (at id items.Bootstraps) (λ n b. bootstrap pool (at id (items.Bootstrap n)) b)
+
+-- JVMS 4.7.16; `within` looks at the values
 unfoldable pub pair_by : (Element → Option WriteFault) → Pool → Part → Pair → Option WriteFault
-pair_by value pool part p = unless (is_some (text_at pool (out-Pair p).name)) (BadShape part) <|> value (out-Pair p).value
+pair_by within pool part p = unless (is_some (text_at pool (out-Pair p).name)) (BadShape part) <|> within (out-Pair p).value
+
+abbrev pub pairs : (Element → Option WriteFault) → Pool → Part → List Pair → Option WriteFault
+pairs within pool part = counted part (λ n p. pair_by within pool part p)
 
 unfoldable pub note_by : (Element → Option WriteFault) → Pool → Part → Note → Option WriteFault
-note_by value pool part note =
-    unless (is_some_that is_field_descriptor (text_at pool (out-Note note).kind)) (BadShape part)
-    <|> counted part (λ n p. pair_by value pool part p) (out-Note note).pairs
+note_by within pool part note =
+    unless (is_some_that is_field_descriptor (text_at pool (out-Note note).kind)) (BadShape part) <|> pairs within pool part (out-Note note).pairs
+
+abbrev pub enum_value : Pool → Part → ℕ → ℕ → Option WriteFault
+enum_value pool part kind name =
+    unless (is_some_that is_field_descriptor (text_at pool kind)) (BadShape part) <|> unless (is_some (text_at pool name)) (BadShape part)
+
+abbrev pub values : (Element → Option WriteFault) → Part → List Element → Option WriteFault
+values within part = counted part (λ n e. within e)
 
 abbrev pub element_by : (Element → Option WriteFault) → Pool → Part → ElementLayer → Option WriteFault
-element_by value pool part (Element-F.Const tag index) = unless (is_some_that (is_value_of tag) (constant_at pool index)) (BadShape part)
-element_by value pool part (Element-F.Enum kind name) =
-    unless (is_some_that is_field_descriptor (text_at pool kind)) (BadShape part) <|> unless (is_some (text_at pool name)) (BadShape part)
-element_by value pool part (Element-F.OfClass class) = unless (is_some_that is_return_descriptor (text_at pool class)) (BadShape part)
-element_by value pool part (Element-F.Nested note) = note_by value pool part note
-element_by value pool part (Element-F.Many values) = counted part (λ n e. value e) values
+element_by within pool part (Element-F.Const tag index) = unless (is_some_that (is_value_of tag) (constant_at pool index)) (BadShape part)
+element_by within pool part (Element-F.Enum kind name) = enum_value pool part kind name
+element_by within pool part (Element-F.OfClass class) = unless (is_some_that is_return_descriptor (text_at pool class)) (BadShape part)
+element_by within pool part (Element-F.Nested note) = note_by within pool part note
+element_by within pool part (Element-F.Many list) = values within part list
 
 -- a value that may have so many levels
 unfoldable pub element : Pool → Part → ℕ → Element → Option WriteFault
@@ -99,6 +113,9 @@ element pool part (suc depth) e = element_by (element pool part depth) pool part
 
 abbrev pub annotation : Pool → Part → Note → Option WriteFault
 annotation pool part = note_by (element pool part greatest_depth) pool part
+
+abbrev pub annotations : Pool → AttributeId → List Note → Option WriteFault
+annotations pool id = counted (at id items.Annotations) (λ n note. annotation pool (at id (items.Annotation n)) note)
 
 -- where the attributes of a holder stand; those of a field stand beside its descriptor
 abbrev pub place_of : Holder → List ℕ → Place
@@ -151,18 +168,17 @@ may_stand pool holder descriptor bare layer =
     has_form holder layer && has_name pool (place_of holder descriptor) layer && not (bare && is_code_layer layer)
 
 -- JVMS 4.7.2
-abbrev pub value_in : Pool → Place → Part → ℕ → Option WriteFault
-value_in pool (in_field descriptor) part value = unless (is_some_that (is_value_for descriptor) (constant_at pool value)) (BadShape part)
-value_in pool place part value = None
+abbrev pub value : Pool → List ℕ → AttributeId → ℕ → Option WriteFault
+value pool descriptor id index = unless (is_some_that (is_value_for descriptor) (constant_at pool index)) (BadShape (at id items.Value))
 
 -- the content of an attribute that isn't code
-abbrev pub plain : Pool → Place → AttributeId → AttributeLayer → Option WriteFault
-plain pool place id (Attribute-F.Code name max_stack max_locals code table inner) = Some (BadShape (at id items.Name))
-plain pool place id (Attribute-F.StackMap name list) = frames pool id list
-plain pool place id (Attribute-F.ConstantValue name value) = value_in pool place (at id items.Value) value
-plain pool place id (Attribute-F.Bootstrap name entries) = counted (at id items.Bootstraps) (λ n b. bootstrap pool (at id (items.Bootstrap n)) b) entries
-plain pool place id (Attribute-F.Annotations name list) = counted (at id items.Annotations) (λ n note. annotation pool (at id (items.Annotation n)) note) list
-plain pool place id (Attribute-F.Other name bytes) = None
+abbrev pub plain : Pool → List ℕ → AttributeId → AttributeLayer → Option WriteFault
+plain pool descriptor id (Attribute-F.Code name max_stack max_locals code table inner) = Some (BadShape (at id items.Name))
+plain pool descriptor id (Attribute-F.StackMap name list) = frames pool id list
+plain pool descriptor id (Attribute-F.ConstantValue name index) = value pool descriptor id index
+plain pool descriptor id (Attribute-F.Bootstrap name entries) = bootstraps pool id entries
+plain pool descriptor id (Attribute-F.Annotations name list) = annotations pool id list
+plain pool descriptor id (Attribute-F.Other name bytes) = None
 
 -- no name that is known stands twice
 abbrev pub is_second : Pool → Place → List Attribute → ℕ → Attribute → Bool
@@ -180,7 +196,7 @@ id_of holder number = record { holder = holder; number = number }
 unfoldable pub code_attribute_of : Pool → Holder → List Attribute → ℕ → Attribute → Option WriteFault
 code_attribute_of pool holder list number a =
     unless (may_stand pool holder [] false (out-Attribute a) && not (is_second pool in_code list number a)) (BadShape (at (id_of holder number) items.Name))
-    <|> plain pool in_code (id_of holder number) (out-Attribute a)
+    <|> plain pool [] (id_of holder number) (out-Attribute a)
     <|> length_of (id_of holder number) (content_by no_attribute (out-Attribute a))
 
 abbrev pub code_attributes : Pool → Holder → List Attribute → Option WriteFault
@@ -190,19 +206,20 @@ code_attributes pool holder list = counted (parts.Attributes holder) (code_attri
 abbrev pub is_code_length : ℕ → Bool
 is_code_length n = nat_lt 0 n && nat_le n 65535
 
-abbrev pub content : Pool → Place → AttributeId → AttributeLayer → Option WriteFault
-content pool place id (Attribute-F.Code name max_stack max_locals code table inner) =
-    unless (is_code_length (length code)) (BadShape (at id items.Code))
-    <|> counted (at id items.Handlers) (λ n h. handler pool (at id (items.Handler n)) h) table
-    <|> code_attributes pool (code_of id.holder) inner
-content pool place id layer = plain pool place id layer
+abbrev pub code : Pool → AttributeId → List ℕ → List Handler → List Attribute → Option WriteFault
+code pool id bytes table inner =
+    unless (is_code_length (length bytes)) (BadShape (at id items.Code)) <|> handlers pool id table <|> code_attributes pool (code_of id.holder) inner
+
+abbrev pub content : Pool → List ℕ → AttributeId → AttributeLayer → Option WriteFault
+content pool descriptor id (Attribute-F.Code name max_stack max_locals bytes table inner) = code pool id bytes table inner
+content pool descriptor id layer = plain pool descriptor id layer
 
 -- an attribute of a class, a field or a method, among all of them
 unfoldable pub attribute_of : Pool → Holder → List ℕ → Bool → List Attribute → ℕ → Attribute → Option WriteFault
 attribute_of pool holder descriptor bare list number a =
     unless (may_stand pool holder descriptor bare (out-Attribute a) && not (is_second pool (place_of holder descriptor) list number a))
     (BadShape (at (id_of holder number) items.Name))
-    <|> content pool (place_of holder descriptor) (id_of holder number) (out-Attribute a)
+    <|> content pool descriptor (id_of holder number) (out-Attribute a)
     <|> length_of (id_of holder number) (content_by code_attribute (out-Attribute a))
 
 abbrev pub attributes : Pool → Holder → List ℕ → Bool → List Attribute → Option WriteFault

@@ -1,6 +1,7 @@
 //! Writing a class file (JVMS chapter 4).
 #![tactic(auto)]
 
+mod annotations;
 mod frames;
 mod indices;
 mod order;
