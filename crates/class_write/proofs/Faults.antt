@@ -48,6 +48,10 @@ pub refuses_size : (part : Part) (test : Bool) → test ≡ false → Refuses (T
 unfolding Refuses
 refuses_size part test is = unless_false test (TooLarge part) is
 
+pub refuses_itself : (part : Part) → Refuses (BadShape part) (Some (BadShape part))
+unfolding Refuses
+refuses_itself part = refl
+
 pub refuses_memory : (e : WriteFault) (found : Option WriteFault) → e ≡ Memory → Refuses e found
 unfolding Refuses
 refuses_memory e found is = rw is tt

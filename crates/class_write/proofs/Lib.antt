@@ -2,3 +2,6 @@ pub mod Faults
 pub mod Lists
 pub mod FrameLemmas
 pub mod AnnotationLemmas
+pub mod ContentLemmas
+pub mod Once
+pub mod AttributeLemmas

@@ -74,9 +74,12 @@ handlers pool id = counted (at id items.Handlers) (λ n h. handler pool (at id (
 abbrev pub argument : Pool → Part → ℕ → Option WriteFault
 argument pool part index = unless (is_some_that is_loadable (constant_at pool index)) (BadShape part)
 
+abbrev pub arguments : Pool → Part → List ℕ → Option WriteFault
+arguments pool part = counted part (λ n index. argument pool part index)
+
 unfoldable pub bootstrap : Pool → Part → Bootstrap → Option WriteFault
 bootstrap pool part b =
-    unless (is_some_that is_handle (constant_at pool b.handle)) (BadShape part) <|> counted part (λ n index. argument pool part index) b.arguments
+    unless (is_some_that is_handle (constant_at pool b.handle)) (BadShape part) <|> arguments pool part b.arguments
 
 abbrev pub bootstraps : Pool → AttributeId → List Bootstrap → Option WriteFault
 bootstraps pool id = counted (at id items.Bootstraps) (λ n b. bootstrap pool (at id (items.Bootstrap n)) b)
@@ -153,6 +156,9 @@ has_form holder (Attribute-F.Bootstrap name entries) = is_class holder
 has_form holder (Attribute-F.Annotations name list) = not (is_code holder)
 has_form holder (Attribute-F.Other name bytes) = true
 
+abbrev pub is_unknown : Pool → Place → ℕ → Bool
+is_unknown pool place name = is_some_that (λ text. not (is_known place text)) (text_at pool name)
+
 -- A known form has its own name, and any other a name that isn't known in the place.
 abbrev pub has_name : Pool → Place → AttributeLayer → Bool
 has_name pool place (Attribute-F.Code name max_stack max_locals code table inner) = is_named pool (codes "Code") name
@@ -160,7 +166,7 @@ has_name pool place (Attribute-F.StackMap name frames) = is_named pool (codes "S
 has_name pool place (Attribute-F.ConstantValue name value) = is_named pool (codes "ConstantValue") name
 has_name pool place (Attribute-F.Bootstrap name entries) = is_named pool (codes "BootstrapMethods") name
 has_name pool place (Attribute-F.Annotations name list) = is_named pool (codes "RuntimeVisibleAnnotations") name
-has_name pool place (Attribute-F.Other name bytes) = is_some_that (λ text. not (is_known place text)) (text_at pool name)
+has_name pool place (Attribute-F.Other name bytes) = is_unknown pool place name
 
 -- whether an attribute may stand there; a method that is `bare` has no code
 unfoldable pub may_stand : Pool → Holder → List ℕ → Bool → AttributeLayer → Bool
@@ -185,6 +191,11 @@ abbrev pub is_second : Pool → Place → List Attribute → ℕ → Attribute �
 is_second pool place list number a =
     is_again (λ b. is_known place (attribute_name pool b)) (λ b c. bytes_eq (attribute_name pool b) (attribute_name pool c)) list number a
 
+-- whether the number of an attribute is a place for it among all of a holder
+unfoldable pub has_place : Pool → Holder → List ℕ → Bool → List Attribute → ℕ → Attribute → Bool
+has_place pool holder descriptor bare list number a =
+    may_stand pool holder descriptor bare (out-Attribute a) && not (is_second pool (place_of holder descriptor) list number a)
+
 -- the length of a content fits its field
 abbrev pub length_of : AttributeId → List ℕ → Option WriteFault
 length_of id content = unless (nat_lt (length content) (2 ^ 32)) (TooLarge (at id items.Length))
@@ -195,7 +206,7 @@ id_of holder number = record { holder = holder; number = number }
 -- an attribute within code, among all of them
 unfoldable pub code_attribute_of : Pool → Holder → List Attribute → ℕ → Attribute → Option WriteFault
 code_attribute_of pool holder list number a =
-    unless (may_stand pool holder [] false (out-Attribute a) && not (is_second pool in_code list number a)) (BadShape (at (id_of holder number) items.Name))
+    unless (has_place pool holder [] false list number a) (BadShape (at (id_of holder number) items.Name))
     <|> plain pool [] (id_of holder number) (out-Attribute a)
     <|> length_of (id_of holder number) (content_by no_attribute (out-Attribute a))
 
@@ -217,8 +228,7 @@ content pool descriptor id layer = plain pool descriptor id layer
 -- an attribute of a class, a field or a method, among all of them
 unfoldable pub attribute_of : Pool → Holder → List ℕ → Bool → List Attribute → ℕ → Attribute → Option WriteFault
 attribute_of pool holder descriptor bare list number a =
-    unless (may_stand pool holder descriptor bare (out-Attribute a) && not (is_second pool (place_of holder descriptor) list number a))
-    (BadShape (at (id_of holder number) items.Name))
+    unless (has_place pool holder descriptor bare list number a) (BadShape (at (id_of holder number) items.Name))
     <|> content pool descriptor (id_of holder number) (out-Attribute a)
     <|> length_of (id_of holder number) (content_by code_attribute (out-Attribute a))
 

@@ -2,6 +2,8 @@
 #![tactic(auto)]
 
 mod annotations;
+mod attributes;
+mod contents;
 mod frames;
 mod indices;
 mod order;

@@ -4,8 +4,9 @@ ghost use Rattle.std.specs.Prelude.{◌≡◌, ◌++◌, ◌<◌, ◌^◌, None,
 ghost use Rattle.class_model.specs.Spelling as spelling;
 ghost use Rattle.const_pool.specs.declared.write_fault.WriteFault.TheVariants as faults;
 ghost use Rattle.class_write.specs.Order.{unless, Refuses};
+ghost use Rattle.class_write.specs.Misfits.{code_of};
 
-use const_pool::{Part, WriteFault, put_u2};
+use const_pool::{Holder, Part, WriteFault, put_u2};
 
 /// Writes the count of the items of a part at the end, where it fits its field.
 #[tactic(auto, using(crate::proofs::Faults::faults))]
@@ -19,4 +20,14 @@ pub(crate) fn put_count(out: &mut Vec<u8>, part: Part, count: usize) -> Result<(
     }
     put_u2(out, count as u16)?;
     Ok(())
+}
+
+/// The code of a method.
+pub(crate) fn code_of(holder: Holder) -> Holder
+    ensures { result ≡ code_of holder }
+{
+    match holder {
+        Holder::Method(number) => Holder::Code(number),
+        other => other,
+    }
 }

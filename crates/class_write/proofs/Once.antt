@@ -1,0 +1,68 @@
+-- Items of which none is the same as an earlier one.
+use Rattle.std.proofs.Common.{◌≡◌, ℕ, zero, suc, ◌+◌, ◌<◌, ◌≤◌, ◌⊎◌, inl, inr, Bool, true, false, not, ◌&&◌, ◌||◌, List, [], ◌∷◌, ◌++◌, length, take, get_or, map, refl, sym, ap, ◌∙◌, arith}
+use Rattle.std.specs.List.{list_any}
+use Rattle.std.proofs.lemmas.Bool.{cases_Bool, and_parts, and_from}
+use Rattle.class_model.specs.Attributes.{once_each}
+use Rattle.class_write.specs.Order.{is_again}
+use Rattle.class_write.proofs.Lists.{front_more}
+
+-- Where two items are the same, they are it in both orders, and both count.
+pub record IsFair {A : Type 0} (counts : A → Bool) (same : A → A → Bool) : Type 0 where
+  pub back : (x y : A) → same x y ≡ same y x
+  pub both : (x y : A) → same x y ≡ true → counts x ≡ counts y
+
+any_more : {A : Type 0} (test : A → Bool) (xs : List A) (x : A) → list_any test xs ≡ false → test x ≡ false → list_any test (xs ++ x ∷ []) ≡ false
+any_more test [] x none is = rw is refl
+any_more test (y ∷ xs) x none is = elim (cases_Bool (test y)) [
+  | inl t ↦ absurd (let h : true ≡ false = rw t at none in cc)
+  | inr f ↦ rw f (any_more test xs x (rw f at none) is)
+]
+
+-- a later item that isn't the same as an earlier one that counts
+pub once_more : {A : Type 0} (counts : A → Bool) (same : A → A → Bool) (xs : List A) (x : A) → IsFair counts same → once_each counts same xs ≡ true
+    → (counts x && list_any (same x) xs) ≡ false → once_each counts same (xs ++ x ∷ []) ≡ true
+once_more counts same [] x fair once none = last (counts x)
+  where
+    last : (b : Bool) → (not (b && false) && true) ≡ true
+    last true = refl
+    last false = refl
+once_more {A} counts same (y ∷ xs) x fair once none =
+    let parts = and_parts (not (counts y && list_any (same y) xs)) (once_each counts same xs) once in
+    and_from (not (counts y && list_any (same y) (xs ++ x ∷ []))) (once_each counts same (xs ++ x ∷ [])) (first (cases_Bool (counts y)) parts.0) (once_more counts same xs x fair parts.1 (behind (cases_Bool (counts x))))
+  where
+    behind : ((counts x ≡ true) ⊎ (counts x ≡ false)) → (counts x && list_any (same x) xs) ≡ false
+    behind (inr f) = rw f refl
+    behind (inl t) = elim (cases_Bool (same x y)) [
+      | inl s ↦ absurd (let h : true ≡ false = rw (t, s) at none in cc)
+      | inr n ↦ rw t (rw (t, n) at none)
+    ]
+
+    apart : counts y ≡ true → ((counts x ≡ true) ⊎ (counts x ≡ false)) → same y x ≡ false
+    apart c d = elim (cases_Bool (same y x)) [
+      | inr n ↦ n
+      | inl s ↦ (let both : counts x ≡ true = sym (fair.both y x s) ∙ c in
+          let back : same x y ≡ true = sym (fair.back y x) ∙ s in
+          absurd (let h : true ≡ false = rw (both, back) at none in cc))
+    ]
+
+    first : ((counts y ≡ true) ⊎ (counts y ≡ false)) → not (counts y && list_any (same y) xs) ≡ true → not (counts y && list_any (same y) (xs ++ x ∷ [])) ≡ true
+    first (inr f) e = rw f refl
+    first (inl t) e = elim (cases_Bool (list_any (same y) xs)) [
+      | inl s ↦ absurd (let h : false ≡ true = rw (t, s) at e in cc)
+      | inr n ↦ (let later : list_any (same y) (xs ++ x ∷ []) ≡ false = any_more (same y) xs x n (apart t (cases_Bool (counts x))) in rw (t, later) refl)
+    ]
+
+-- one more item of a list
+pub once_next : {A : Type 0} (counts : A → Bool) (same : A → A → Bool) (items : List A) (i : ℕ) (x : A) → IsFair counts same → i < length items → x ≡ get_or items i x
+    → once_each counts same (take i items) ≡ true → is_again counts same items i x ≡ false → once_each counts same (take (i + 1) items) ≡ true
+once_next counts same items i x fair within is once none = rw (front_more items i x within is) (once_more counts same (take i items) x fair once none)
+
+any_map : {A B : Type 0} (f : A → B) (test : B → Bool) (xs : List A) → list_any test (map f xs) ≡ list_any (λ x. test (f x)) xs
+any_map f test [] = refl
+any_map f test (x ∷ xs) = ap (λ (b : Bool). test (f x) || b) (any_map f test xs)
+
+-- items by what they map to
+pub once_map : {A B : Type 0} (f : A → B) (counts : B → Bool) (same : B → B → Bool) (xs : List A)
+    → once_each counts same (map f xs) ≡ once_each (λ x. counts (f x)) (λ x y. same (f x) (f y)) xs
+once_map f counts same [] = refl
+once_map f counts same (x ∷ xs) = rw (any_map f (same (f x)) xs, once_map f counts same xs) refl

@@ -1,0 +1,12 @@
+use Rattle.std.proofs.Common.{◌≡◌, true, [], take}
+use Rattle.class_model.specs.Attributes.{IsCodeAttribute, once_each}
+use Rattle.class_model.specs.Spelling as spelling
+use Rattle.class_write.specs.Misfits as misfits
+use Rattle.class_write.proofs.Lists.{SoFar}
+use Rattle.class_write.proofs.AttributeLemmas.{counts, same}
+use Rattle.class_write.proofs.attributes.put_code_attributes.Given as goal
+
+abbrev pub invariant-loop-i : goal.invariant-loop-i
+invariant-loop-i l =
+    SoFar spelling.code_attribute (IsCodeAttribute l.pool) (misfits.code_attribute_of l.pool l.holder l.list) l.list l.i l.initial.out.items l.out.items
+    × (once_each (counts l.pool (misfits.place_of l.holder [])) (same l.pool) (take l.i l.list) ≡ true)

@@ -1,0 +1,10 @@
+use Rattle.class_model.specs.Attributes.{IsHandler}
+use Rattle.class_model.specs.Spelling as spelling
+use Rattle.const_pool.specs.declared.write_fault.AttributePart.TheVariants as items
+use Rattle.class_write.specs.Misfits as misfits
+use Rattle.class_write.proofs.Lists.{SoFar}
+use Rattle.class_write.proofs.contents.put_handlers.Given as goal
+
+abbrev pub invariant-loop-i : goal.invariant-loop-i
+invariant-loop-i l =
+    SoFar spelling.handler (IsHandler l.pool) (λ n h. misfits.handler l.pool (misfits.at l.id (items.Handler n)) h) l.table l.i l.initial.out.items l.out.items

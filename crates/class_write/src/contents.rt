@@ -1,0 +1,233 @@
+//! Contents of attributes (JVMS 4.7).
+
+ghost use Rattle.std.specs.Prelude.{◌≡◌, ◌++◌, ◌==◌, ◌||◌, ◌<◌, ◌^◌, true, length, None, OnOk, IfErr, IsOkUnless};
+ghost use Rattle.std.specs.List.{flat_map};
+ghost use Rattle.class_model.specs.declared.attribute_forms.Attribute.{out-Attribute};
+ghost use Rattle.class_model.specs.Annotations.{IsCounted};
+ghost use Rattle.class_model.specs.Attributes.{IsBytes, IsHandler, IsBootstrap, is_value_for, is_handle, is_loadable};
+ghost use Rattle.class_model.specs.Constants.{constant_at, is_some_that, is_class_constant};
+ghost use Rattle.class_model.specs.Spelling as spelling;
+ghost use Rattle.class_write.specs.Order.{unless, Refuses};
+ghost use Rattle.class_write.specs.Contents.{HasPlainContent};
+ghost use Rattle.class_write.specs.Misfits as misfits;
+ghost use Rattle.const_pool.specs.declared.write_fault.AttributePart.TheVariants as items;
+ghost use Rattle.const_pool.specs.declared.write_fault.WriteFault.TheVariants as faults;
+
+use crate::annotations::put_annotations;
+use crate::frames::put_frames;
+use crate::indices::{is_class, is_handle, is_loadable, is_value_for};
+use crate::order::put_count;
+use class_model::{Attribute, Bootstrap, Handler, Pool};
+use const_pool::{AttributeId, AttributePart, Part, WriteFault, put_u2, put_u4};
+
+/// Whether a handler may catch this class, 0 for all.
+fn is_catch_type(pool: &Pool, class: u16) -> bool
+    ensures { result ≡ (class == 0 || is_some_that is_class_constant (constant_at pool.now class)) }
+{
+    if class == 0 {
+        return true;
+    }
+    is_class(pool, class)
+}
+
+#[tactic(auto, using(crate::proofs::Faults::faults), unfolding(class_model::specs::Spelling::handler))]
+fn put_handler(
+    out: &mut Vec<u8>,
+    pool: &Pool,
+    part: Part,
+    handler: &Handler,
+) -> Result<(), WriteFault>
+    ensures ok { OnOk result (out.new.items ≡ out.old.items ++ spelling.handler handler.now) }
+    ensures shaped { OnOk result (IsHandler pool.now handler.now) }
+    ensures none { OnOk result (misfits.handler pool.now part handler.now ≡ None) }
+    ensures fault { IfErr result (λ e. Refuses e (misfits.handler pool.now part handler.now)) }
+{
+    if !is_catch_type(pool, handler.catch_type) {
+        return Err(WriteFault::BadShape(part));
+    }
+    put_u2(out, handler.start)?;
+    put_u2(out, handler.end)?;
+    put_u2(out, handler.handler)?;
+    put_u2(out, handler.catch_type)?;
+    Ok(())
+}
+
+/// Writes the exception table of the code that is this attribute.
+pub(crate) fn put_handlers(
+    out: &mut Vec<u8>,
+    pool: &Pool,
+    id: AttributeId,
+    table: &[Handler],
+) -> Result<(), WriteFault>
+    ensures ok { OnOk result (out.new.items ≡ out.old.items ++ spelling.counted spelling.handler table.now) }
+    ensures shaped { OnOk result (IsCounted (IsHandler pool.now) table.now) }
+    ensures none { OnOk result (misfits.handlers pool.now id table.now ≡ None) }
+    ensures fault { IfErr result (λ e. Refuses e (misfits.handlers pool.now id table.now)) }
+{
+    put_count(
+        out,
+        Part::Attribute(id, AttributePart::Handlers),
+        table.len(),
+    )?;
+    for i in 0..table.len() {
+        let part = Part::Attribute(id, AttributePart::Handler(i as u32));
+        put_handler(out, pool, part, &table[i])?;
+    }
+    Ok(())
+}
+
+#[tactic(auto, using(crate::proofs::Faults::faults))]
+fn put_argument(out: &mut Vec<u8>, pool: &Pool, part: Part, index: u16) -> Result<(), WriteFault>
+    ensures ok { OnOk result (out.new.items ≡ out.old.items ++ spelling.u2 index) }
+    ensures shaped { OnOk result (is_some_that is_loadable (constant_at pool.now index) ≡ true) }
+    ensures none { OnOk result (misfits.argument pool.now part index ≡ None) }
+    ensures fault { IfErr result (λ e. Refuses e (misfits.argument pool.now part index)) }
+{
+    if !is_loadable(pool, index) {
+        return Err(WriteFault::BadShape(part));
+    }
+    put_u2(out, index)?;
+    Ok(())
+}
+
+fn put_arguments(
+    out: &mut Vec<u8>,
+    pool: &Pool,
+    part: Part,
+    arguments: &[u16],
+) -> Result<(), WriteFault>
+    ensures ok { OnOk result (out.new.items ≡ out.old.items ++ spelling.counted spelling.u2 arguments.now) }
+    ensures shaped { OnOk result (IsCounted (λ index. is_some_that is_loadable (constant_at pool.now index) ≡ true) arguments.now) }
+    ensures none { OnOk result (misfits.arguments pool.now part arguments.now ≡ None) }
+    ensures fault { IfErr result (λ e. Refuses e (misfits.arguments pool.now part arguments.now)) }
+{
+    put_count(out, part, arguments.len())?;
+    for i in 0..arguments.len() {
+        put_argument(out, pool, part, arguments[i])?;
+    }
+    Ok(())
+}
+
+#[tactic(auto, using(crate::proofs::Faults::faults), unfolding(class_model::specs::Spelling::bootstrap, crate::specs::Misfits::bootstrap))]
+fn put_bootstrap(
+    out: &mut Vec<u8>,
+    pool: &Pool,
+    part: Part,
+    bootstrap: &Bootstrap,
+) -> Result<(), WriteFault>
+    ensures ok { OnOk result (out.new.items ≡ out.old.items ++ spelling.bootstrap bootstrap.now) }
+    ensures shaped { OnOk result (IsBootstrap pool.now bootstrap.now) }
+    ensures none { OnOk result (misfits.bootstrap pool.now part bootstrap.now ≡ None) }
+    ensures fault { IfErr result (λ e. Refuses e (misfits.bootstrap pool.now part bootstrap.now)) }
+{
+    if !is_handle(pool, bootstrap.handle) {
+        return Err(WriteFault::BadShape(part));
+    }
+    put_u2(out, bootstrap.handle)?;
+    put_arguments(out, pool, part, bootstrap.arguments.as_slice())?;
+    Ok(())
+}
+
+/// Writes the table of bootstrap methods that is this attribute.
+fn put_bootstraps(
+    out: &mut Vec<u8>,
+    pool: &Pool,
+    id: AttributeId,
+    entries: &[Bootstrap],
+) -> Result<(), WriteFault>
+    ensures ok { OnOk result (out.new.items ≡ out.old.items ++ spelling.counted spelling.bootstrap entries.now) }
+    ensures shaped { OnOk result (IsCounted (IsBootstrap pool.now) entries.now) }
+    ensures none { OnOk result (misfits.bootstraps pool.now id entries.now ≡ None) }
+    ensures fault { IfErr result (λ e. Refuses e (misfits.bootstraps pool.now id entries.now)) }
+{
+    put_count(
+        out,
+        Part::Attribute(id, AttributePart::Bootstraps),
+        entries.len(),
+    )?;
+    for i in 0..entries.len() {
+        let part = Part::Attribute(id, AttributePart::Bootstrap(i as u32));
+        put_bootstrap(out, pool, part, &entries[i])?;
+    }
+    Ok(())
+}
+
+/// Writes the index of the constant of a field.
+#[tactic(auto, using(crate::proofs::Faults::faults))]
+fn put_value(
+    out: &mut Vec<u8>,
+    pool: &Pool,
+    descriptor: &[u8],
+    id: AttributeId,
+    index: u16,
+) -> Result<(), WriteFault>
+    ensures ok { OnOk result (out.new.items ≡ out.old.items ++ spelling.u2 index) }
+    ensures shaped { OnOk result (is_some_that (is_value_for descriptor.now) (constant_at pool.now index) ≡ true) }
+    ensures none { OnOk result (misfits.value pool.now descriptor.now id index ≡ None) }
+    ensures fault { IfErr result (λ e. Refuses e (misfits.value pool.now descriptor.now id index)) }
+{
+    if !is_value_for(pool, descriptor, index) {
+        return Err(WriteFault::BadShape(Part::Attribute(id, AttributePart::Value)));
+    }
+    put_u2(out, index)?;
+    Ok(())
+}
+
+fn put_bytes(out: &mut Vec<u8>, bytes: &[u8]) -> Result<(), WriteFault>
+    ensures ok { OnOk result (out.new.items ≡ out.old.items ++ bytes.now) }
+    ensures bytes { OnOk result (IsBytes bytes.now) }
+    ensures memory { IsOkUnless result WriteFault.Memory }
+{
+    out.extend_from_slice(bytes)?;
+    Ok(())
+}
+
+/// Writes the limits of code, and its bytes behind their number.
+#[tactic(auto, using(crate::proofs::Faults::faults))]
+pub(crate) fn put_code_bytes(
+    out: &mut Vec<u8>,
+    id: AttributeId,
+    max_stack: u16,
+    max_locals: u16,
+    code: &[u8],
+) -> Result<(), WriteFault>
+    ensures ok { OnOk result (out.new.items ≡ out.old.items ++ spelling.u2 max_stack ++ spelling.u2 max_locals ++ spelling.u4 (length code.now) ++ code.now) }
+    ensures some { OnOk result (misfits.is_code_length (length code.now) ≡ true) }
+    ensures bytes { OnOk result (IsBytes code.now) }
+    ensures fault { IfErr result (λ e. Refuses e (unless (misfits.is_code_length (length code.now)) (faults.BadShape (misfits.at id items.Code)))) }
+{
+    if code.is_empty() || code.len() > 65535 {
+        return Err(WriteFault::BadShape(Part::Attribute(id, AttributePart::Code)));
+    }
+    put_u2(out, max_stack)?;
+    put_u2(out, max_locals)?;
+    put_u4(out, code.len() as u32)?;
+    put_bytes(out, code)
+}
+
+/// Writes the content of an attribute that isn't code.
+#[tactic(auto, using(crate::proofs::Faults::faults), unfolding(class_model::specs::Spelling::content_by))]
+pub(crate) fn put_plain(
+    out: &mut Vec<u8>,
+    pool: &Pool,
+    descriptor: &[u8],
+    id: AttributeId,
+    attribute: &Attribute,
+) -> Result<(), WriteFault>
+    ensures ok { OnOk result (out.new.items ≡ out.old.items ++ spelling.content_by spelling.no_attribute (out-Attribute attribute.now)) }
+    ensures shaped { OnOk result (HasPlainContent pool.now descriptor.now (out-Attribute attribute.now)) }
+    ensures none { OnOk result (misfits.plain pool.now descriptor.now id (out-Attribute attribute.now) ≡ None) }
+    ensures fault { IfErr result (λ e. Refuses e (misfits.plain pool.now descriptor.now id (out-Attribute attribute.now))) }
+{
+    match attribute {
+        Attribute::Code { .. } => Err(WriteFault::BadShape(Part::Attribute(
+            id,
+            AttributePart::Name,
+        ))),
+        Attribute::StackMap { frames, .. } => put_frames(out, pool, id, frames.as_slice()),
+        Attribute::ConstantValue { value, .. } => put_value(out, pool, descriptor, id, *value),
+        Attribute::Bootstrap { entries, .. } => put_bootstraps(out, pool, id, entries.as_slice()),
+        Attribute::Annotations { list, .. } => put_annotations(out, pool, id, list.as_slice()),
+        Attribute::Other { bytes, .. } => put_bytes(out, bytes.as_slice()),
+    }
+}
