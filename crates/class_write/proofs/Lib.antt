@@ -5,3 +5,4 @@ pub mod AnnotationLemmas
 pub mod ContentLemmas
 pub mod Once
 pub mod AttributeLemmas
+pub mod MemberLemmas

@@ -235,41 +235,60 @@ attribute_of pool holder descriptor bare list number a =
 abbrev pub attributes : Pool → Holder → List ℕ → Bool → List Attribute → Option WriteFault
 attributes pool holder descriptor bare list = counted (parts.Attributes holder) (attribute_of pool holder descriptor bare list) list
 
--- no two members have one name and one descriptor
+-- an earlier member has this one's name and descriptor
 abbrev pub is_double : Pool → List Member → ℕ → Member → Bool
 is_double pool members number m = is_again (λ m. true) (are_same pool) members number m
 
--- JVMS 4.5
-unfoldable pub field : Pool → List Member → ℕ → Member → Option WriteFault
-field pool members number m =
+-- JVMS 4.5; no two members have one name and one descriptor
+unfoldable pub field : Pool → Bool → ℕ → Member → Option WriteFault
+field pool double number m =
     unless (is_some_that is_unqualified (text_at pool m.name)) (BadShape (parts.Field number member_parts.Name))
-    <|> unless (is_some_that is_field_descriptor (text_at pool m.descriptor) && not (is_double pool members number m))
-    (BadShape (parts.Field number member_parts.Descriptor))
+    <|> unless (is_some_that is_field_descriptor (text_at pool m.descriptor) && not double) (BadShape (parts.Field number member_parts.Descriptor))
     <|> attributes pool (holders.Field number) (descriptor_text pool m) false m.attributes
+
+abbrev pub fields : Pool → List Member → Option WriteFault
+fields pool members = counted parts.Fields (λ n m. field pool (is_double pool members n m) n m) members
 
 abbrev pub is_bare : Member → Bool
 is_bare m = is_abstract m.flags || is_native m.flags
 
+-- code is there exactly where the method isn't bare
+abbrev pub has_its_code : Member → Bool
+has_its_code m = if is_bare m then not (has_code m.attributes) else has_code m.attributes
+
 -- JVMS 4.6
-unfoldable pub method : Pool → List Member → ℕ → Member → Option WriteFault
-method pool members number m =
+unfoldable pub method : Pool → Bool → ℕ → Member → Option WriteFault
+method pool double number m =
     unless (is_some_that is_method_name (text_at pool m.name)) (BadShape (parts.Method number member_parts.Name))
-    <|> unless (is_some_that (is_method_descriptor (most_slots m.flags)) (text_at pool m.descriptor) && not (is_double pool members number m))
+    <|> unless (is_some_that (is_method_descriptor (most_slots m.flags)) (text_at pool m.descriptor) && not double)
     (BadShape (parts.Method number member_parts.Descriptor))
     <|> attributes pool (holders.Method number) [] (is_bare m) m.attributes
-    <|> unless (if is_bare m then not (has_code m.attributes) else has_code m.attributes) (BadShape (parts.Method number member_parts.Code))
+    <|> unless (has_its_code m) (BadShape (parts.Method number member_parts.Code))
+
+abbrev pub methods : Pool → List Member → Option WriteFault
+methods pool members = counted parts.Methods (λ n m. method pool (is_double pool members n m) n m) members
 
 -- JVMS 4.1
 abbrev pub interface : Pool → ℕ → ℕ → Option WriteFault
 interface pool number index = unless (is_plain_class pool index) (BadShape (parts.Interface number))
 
-unfoldable pub misfit : Class → Option WriteFault
-misfit c =
-    unless (nat_le 52 c.major && nat_le c.major 65) (BadShape parts.Major)
-    <|> pool.misfit c.pool
-    <|> unless (is_plain_class c.pool c.this_class) (BadShape parts.ThisClass)
-    <|> unless (has_super c) (BadShape parts.SuperClass)
-    <|> counted parts.Interfaces (interface c.pool) c.interfaces
-    <|> counted parts.Fields (field c.pool c.fields) c.fields
-    <|> counted parts.Methods (method c.pool c.methods) c.methods
+abbrev pub interfaces : Pool → List ℕ → Option WriteFault
+interfaces pool = counted parts.Interfaces (λ n index. interface pool n index)
+
+abbrev pub version : Class → Option WriteFault
+version c = unless (nat_le 52 c.major && nat_le c.major 65) (BadShape parts.Major)
+
+abbrev pub names : Class → Option WriteFault
+names c = unless (is_plain_class c.pool c.this_class) (BadShape parts.ThisClass) <|> unless (has_super c) (BadShape parts.SuperClass)
+
+-- what stands before the interfaces, and from them on
+abbrev pub head : Class → Option WriteFault
+head c = version c <|> pool.misfit c.pool <|> names c
+
+abbrev pub lists_of : Class → Option WriteFault
+lists_of c =
+    interfaces c.pool c.interfaces <|> fields c.pool c.fields <|> methods c.pool c.methods
     <|> attributes c.pool holders.Class [] false c.attributes
+
+unfoldable pub misfit : Class → Option WriteFault
+misfit c = head c <|> lists_of c

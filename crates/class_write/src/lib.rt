@@ -5,5 +5,9 @@ mod annotations;
 mod attributes;
 mod contents;
 mod frames;
+mod header;
 mod indices;
+mod members;
 mod order;
+
+pub use header::write_class;

@@ -1,0 +1,14 @@
+use Rattle.std.proofs.Common.{◌≡◌, true, take}
+use Rattle.class_model.specs.Attributes.{once_each}
+use Rattle.class_model.specs.Shape.{IsField, are_same}
+use Rattle.class_model.specs.Spelling as spelling
+use Rattle.class_write.specs.Doubles.{HasSeen}
+use Rattle.class_write.specs.Misfits as misfits
+use Rattle.class_write.proofs.Lists.{SoFar}
+use Rattle.class_write.proofs.members.put_fields.Given as goal
+
+abbrev pub invariant-loop-i : goal.invariant-loop-i
+invariant-loop-i l =
+    SoFar spelling.member (IsField l.pool) (λ n m. misfits.field l.pool (misfits.is_double l.pool l.fields n m) n m) l.fields l.i l.initial.out.items l.out.items
+    × (once_each (λ m. true) (are_same l.pool) (take l.i l.fields) ≡ true)
+    × HasSeen l.pool (take l.i l.fields) l.seen
