@@ -26,7 +26,7 @@ counts pool place a = is_known place (attribute_name pool a)
 abbrev pub same : Pool → Attribute → Attribute → Bool
 same pool a b = bytes_eq (attribute_name pool a) (attribute_name pool b)
 
-fair : (pool : Pool) (place : Place) → IsFair (counts pool place) (same pool)
+pub fair : (pool : Pool) (place : Place) → IsFair (counts pool place) (same pool)
 fair pool place = record {
   back = λ a b. nat_list_eq_equiv.symm (attribute_name pool a) (attribute_name pool b);
   both = λ a b e. ap (is_known place) ((bytes_eq-Decides (attribute_name pool a) (attribute_name pool b)).0 e);

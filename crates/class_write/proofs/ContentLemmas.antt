@@ -109,3 +109,31 @@ plain_misfit pool d id (Attribute-F.ConstantValue name value) e = refl
 plain_misfit pool d id (Attribute-F.Bootstrap name entries) e = refl
 plain_misfit pool d id (Attribute-F.Annotations name list) e = refl
 plain_misfit pool d id (Attribute-F.Other name bytes) e = refl
+
+-- a form is a content under its own name, where it stands
+pub form_parts : (Inner : List Attribute → Type 0) (pool : Pool) (holder : Holder) (d : List ℕ) (layer : AttributeLayer) → HasForm Inner pool (place_of holder d) layer
+    → (has_form holder layer ≡ true) × (has_name pool (place_of holder d) layer ≡ true) × HasContent Inner pool d layer
+form_parts Inner pool holders.Class d (Attribute-F.Code name max_stack max_locals code table inner) is = absurd is
+form_parts Inner pool (holders.Field k) d (Attribute-F.Code name max_stack max_locals code table inner) is = absurd is
+form_parts Inner pool (holders.Method k) d (Attribute-F.Code name max_stack max_locals code table inner) is = (refl, is.0, is.1)
+form_parts Inner pool (holders.Code k) d (Attribute-F.Code name max_stack max_locals code table inner) is = absurd is
+form_parts Inner pool holders.Class d (Attribute-F.StackMap name frames) is = absurd is
+form_parts Inner pool (holders.Field k) d (Attribute-F.StackMap name frames) is = absurd is
+form_parts Inner pool (holders.Method k) d (Attribute-F.StackMap name frames) is = absurd is
+form_parts Inner pool (holders.Code k) d (Attribute-F.StackMap name frames) is = (refl, is.0, is.1)
+form_parts Inner pool holders.Class d (Attribute-F.ConstantValue name value) is = absurd is
+form_parts Inner pool (holders.Field k) d (Attribute-F.ConstantValue name value) is = (refl, is.0, is.1)
+form_parts Inner pool (holders.Method k) d (Attribute-F.ConstantValue name value) is = absurd is
+form_parts Inner pool (holders.Code k) d (Attribute-F.ConstantValue name value) is = absurd is
+form_parts Inner pool holders.Class d (Attribute-F.Bootstrap name entries) is = (refl, is.0, is.1)
+form_parts Inner pool (holders.Field k) d (Attribute-F.Bootstrap name entries) is = absurd is
+form_parts Inner pool (holders.Method k) d (Attribute-F.Bootstrap name entries) is = absurd is
+form_parts Inner pool (holders.Code k) d (Attribute-F.Bootstrap name entries) is = absurd is
+form_parts Inner pool holders.Class d (Attribute-F.Annotations name list) is = (refl, is.0, is.1)
+form_parts Inner pool (holders.Field k) d (Attribute-F.Annotations name list) is = (refl, is.0, is.1)
+form_parts Inner pool (holders.Method k) d (Attribute-F.Annotations name list) is = (refl, is.0, is.1)
+form_parts Inner pool (holders.Code k) d (Attribute-F.Annotations name list) is = absurd is
+form_parts Inner pool holders.Class d (Attribute-F.Other name bytes) is = (refl, is.name, is.bytes)
+form_parts Inner pool (holders.Field k) d (Attribute-F.Other name bytes) is = (refl, is.name, is.bytes)
+form_parts Inner pool (holders.Method k) d (Attribute-F.Other name bytes) is = (refl, is.name, is.bytes)
+form_parts Inner pool (holders.Code k) d (Attribute-F.Other name bytes) is = (refl, is.name, is.bytes)

@@ -1,5 +1,5 @@
 -- The first of several faults.
-use Rattle.std.proofs.Common.{◌≡◌, ℕ, ◌<◌, ◌^◌, Bool, true, false, Option, Some, None, Result, Ok, Err, IfErr, IsErrAnd, ltb, refl, sym, subst, arith}
+use Rattle.std.proofs.Common.{◌≡◌, ℕ, ◌<◌, ◌^◌, Bool, true, false, Option, Some, None, Result, Ok, Err, IfErr, IsErrAnd, IsOkUnless, ltb, refl, sym, ◌∙◌, subst, arith}
 use Rattle.const_pool.specs.declared.write_fault.Part.{Part}
 use Rattle.const_pool.specs.declared.write_fault.WriteFault.{WriteFault}
 use Rattle.const_pool.specs.declared.write_fault.WriteFault.TheVariants.{TooLarge, BadShape, Memory}
@@ -71,5 +71,15 @@ passed_on (Err e) x found is refuses = subst (λ (f : WriteFault). Refuses f fou
 pub memory_passed_on : {T : Type 0} (r : Result T WriteFault) (found : Option WriteFault) → IsErrAnd r (λ e. e ≡ Memory) → IfErr r (λ e. Refuses e found)
 memory_passed_on (Ok t) found is = tt
 memory_passed_on (Err e) found is = refuses_memory e found is
+
+pub only_memory : (e : WriteFault) (found : Option WriteFault) → Refuses e found → found ≡ None → e ≡ Memory
+unfolding Refuses
+only_memory Memory found refuses none = refl
+only_memory (TooLarge part) found refuses none = absurd (let h : Some (TooLarge part) ≡ None = sym refuses ∙ none in cc)
+only_memory (BadShape part) found refuses none = absurd (let h : Some (BadShape part) ≡ None = sym refuses ∙ none in cc)
+
+pub unless_memory : {T : Type 0} (r : Result T WriteFault) (x : WriteFault) → IsErrAnd r (λ e. e ≡ x) → x ≡ Memory → IsOkUnless r Memory
+unless_memory (Ok t) x is memory = tt
+unless_memory (Err e) x is memory = is ∙ memory
 
 pub ruleset faults = (refuses_here, refuses_later, none_both, unless_true, refuses_shape, refuses_size, refuses_memory, passed_on, memory_passed_on)

@@ -6,3 +6,5 @@ pub mod ContentLemmas
 pub mod Once
 pub mod AttributeLemmas
 pub mod MemberLemmas
+pub mod Complete
+pub mod ClassLemmas

@@ -56,7 +56,7 @@ pub not_back : (a b : Bool) → a ≡ not b → b ≡ not a
 not_back a true e = rw e refl
 not_back a false e = rw e refl
 
-fair : (pool : Pool) → IsFair (λ (m : Member). true) (are_same pool)
+pub fair : (pool : Pool) → IsFair (λ (m : Member). true) (are_same pool)
 fair pool = record {
   back = λ m n. rw (nat_list_eq_equiv.symm (name_text pool m) (name_text pool n), nat_list_eq_equiv.symm (descriptor_text pool m) (descriptor_text pool n)) refl;
   both = λ m n e. refl;

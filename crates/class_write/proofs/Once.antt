@@ -57,6 +57,33 @@ pub once_next : {A : Type 0} (counts : A → Bool) (same : A → A → Bool) (it
     → once_each counts same (take i items) ≡ true → is_again counts same items i x ≡ false → once_each counts same (take (i + 1) items) ≡ true
 once_next counts same items i x fair within is once none = rw (front_more items i x within is) (once_more counts same (take i items) x fair once none)
 
+any_there : {A : Type 0} (test : A → Bool) (xs : List A) (x : A) (rest : List A) → test x ≡ true → list_any test (xs ++ x ∷ rest) ≡ true
+any_there test [] x rest is = rw is refl
+any_there test (y ∷ xs) x rest is = elim (cases_Bool (test y)) [ inl t ↦ rw t refl | inr f ↦ rw f (any_there test xs x rest is) ]
+
+-- an item that counts isn't the same as one before it
+pub once_before : {A : Type 0} (counts : A → Bool) (same : A → A → Bool) (front : List A) (x : A) (rest : List A) → IsFair counts same → once_each counts same (front ++ x ∷ rest) ≡ true
+    → (counts x && list_any (same x) front) ≡ false
+once_before counts same [] x rest fair once = none (counts x)
+  where
+    none : (b : Bool) → (b && false) ≡ false
+    none true = refl
+    none false = refl
+once_before {A} counts same (y ∷ front) x rest fair once = elim (cases_Bool (counts x)) [
+  | inr f ↦ rw f refl
+  | inl t ↦ (let parts = and_parts (not (counts y && list_any (same y) (front ++ x ∷ rest))) (once_each counts same (front ++ x ∷ rest)) once in
+      let later : list_any (same x) front ≡ false = rw t at (once_before counts same front x rest fair parts.1) in
+      let here : same x y ≡ false = apart t parts.0 (cases_Bool (same x y)) in
+      rw (t, here) later)
+]
+  where
+    apart : counts x ≡ true → not (counts y && list_any (same y) (front ++ x ∷ rest)) ≡ true → ((same x y ≡ true) ⊎ (same x y ≡ false)) → same x y ≡ false
+    apart t e (inr n) = n
+    apart t e (inl s) =
+        let both : counts y ≡ true = sym (fair.both x y s) ∙ t in
+        let any : list_any (same y) (front ++ x ∷ rest) ≡ true = any_there (same y) front x rest (sym (fair.back x y) ∙ s) in
+        absurd (let h : false ≡ true = rw (both, any) at e in cc)
+
 any_map : {A B : Type 0} (f : A → B) (test : B → Bool) (xs : List A) → list_any test (map f xs) ≡ list_any (λ x. test (f x)) xs
 any_map f test [] = refl
 any_map f test (x ∷ xs) = ap (λ (b : Bool). test (f x) || b) (any_map f test xs)

@@ -45,6 +45,7 @@ fn put_version(out: &mut Vec<u8>, class: &Class) -> Result<(), WriteFault>
 fn put_pool(out: &mut Vec<u8>, alloc: Global, pool: &Pool) -> Result<(), WriteFault>
     ensures ok { OnOk result (out.new.items ≡ out.old.items ++ spelling.pool pool.now) }
     ensures shaped { OnOk result (IsPool pool.now) }
+    ensures none { OnOk result (pools.misfit pool.now ≡ None) }
     ensures fault { IfErr result (λ e. Refuses e (pools.misfit pool.now)) }
 {
     let bytes = write_pool(alloc, pool)?;
