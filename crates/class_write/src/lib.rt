@@ -11,3 +11,6 @@ mod members;
 mod order;
 
 pub use header::write_class;
+
+#[cfg(test)]
+mod tests;
