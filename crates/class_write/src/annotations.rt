@@ -16,7 +16,7 @@ use crate::order::put_count;
 use class_model::{Element, Note, Pair, Pool};
 use const_pool::{AttributeId, AttributePart, Part, WriteFault, put_u2};
 
-/// The greatest depth of a value (as a read class has it).
+/// An outermost value has depth 1, and an array and an annotation add 1.
 const GREATEST_DEPTH: u8 = 64;
 
 #[tactic(auto, using(crate::proofs::Faults::faults))]
