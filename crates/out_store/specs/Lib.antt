@@ -1,0 +1,7 @@
+pub mod Changes
+pub mod Faults
+pub mod Generations
+pub mod Names
+pub mod Numbers
+pub mod Publishing
+pub mod Standing

@@ -1,0 +1,18 @@
+//! The store of results `out`: the entries of tasks, their logs, and the files of their generations. It stands
+//! on the trait of a store and on the texts of entries. The layer above uses that each call does exactly what
+//! it says to a store that tells its content, that a fault comes only where the store counted one, and that
+//! whatever the results stood for they stand for after each call, refused or not.
+#![tactic(auto)]
+
+mod fault;
+mod finished;
+mod names;
+mod numbers;
+mod putting;
+mod reading;
+mod removing;
+mod store;
+
+pub use fault::OutFault;
+pub use finished::Finished;
+pub use store::Out;
