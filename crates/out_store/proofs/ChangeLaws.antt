@@ -1,5 +1,5 @@
 -- Puts and removals one after another, at a place in between.
-use Rattle.std.proofs.Common.{◌≡◌, ℕ, zero, suc, ◌+◌, ◌<◌, ◌≤◌, ◌⊎◌, inl, inr, List, [], ◌∷◌, ◌++◌, length, take, drop, map, get_or, Option, Some, None, Result, Ok, Err, OnErr, refl, sym, ap, subst, ◌∙◌, arith}
+use Rattle.std.proofs.Common.{◌≡◌, ℕ, suc, ◌+◌, ◌<◌, ◌⊎◌, inl, inr, List, [], ◌∷◌, ◌++◌, length, take, drop, map, get_or, Option, Result, Ok, Err, OnErr, refl, sym, ap, subst, ◌∙◌}
 use Rattle.std.proofs.Math.Seq.{drop-cons}
 use Rattle.std.proofs.lemmas.List.{take_more, map-append, take-append-drop}
 use Rattle.io_traits.specs.Files.{File, Files, put_in, take_out, LeftByPut, LeftByRemove}
@@ -71,6 +71,11 @@ on_err (Err e) p = p
 pub not_begun : (xs : List File) (old : Option Files) → LeftByPuts xs old old
 not_begun [] old = refl
 not_begun (x ∷ xs) old = inl (inl refl)
+
+-- all was put
+pub all_put : (xs : List File) (old new : Option Files) → new ≡ puts_in xs old → LeftByPuts xs old new
+all_put [] old new is = is
+all_put (x ∷ xs) old new is = inr (all_put xs (put_in x.0 x.1 old) new is)
 
 -- a row of puts in two parts
 pub left_split : (xs ys : List File) (old new : Option Files) → LeftByPuts (xs ++ ys) old new → LeftByPuts xs old new ⊎ LeftByPuts ys (puts_in xs old) new

@@ -1,12 +1,12 @@
 -- What stands under a name after a put and after a removal.
-use Rattle.std.proofs.Common.{◌≡◌, ◌≢◌, ℕ, ◌⊎◌, inl, inr, Bool, true, false, cond, not, List, [], ◌∷◌, map, Option, Some, None, Contains, refl, sym, ap, subst, ◌∙◌, arith, zero, suc, ◌<◌, length}
+use Rattle.std.proofs.Common.{◌≡◌, ◌≢◌, ℕ, ◌⊎◌, inl, inr, true, false, cond, not, List, [], ◌∷◌, Some, None, Contains, refl, sym, ap, ◌∙◌, arith, zero, suc}
 use Rattle.std.specs.declared.cmp.Ordering.TheVariants.{Equal}
 use Rattle.std.specs.FinMap.Entries as entries
 use Rattle.std.specs.Ordering.{is_eq, eq_by_cmp}
 use Rattle.std.proofs.lemmas.Cmp.{nat_list_cmp_total, tied_itself}
 use Rattle.std.proofs.lemmas.Map.Lookups.{exact_bytes}
 use Rattle.std.proofs.lemmas.Map.Views.{tells_apart}
-use Rattle.io_traits.specs.Files.{File, Files, get, insert, remove, names}
+use Rattle.io_traits.specs.Files.{Files, get, insert, remove, names}
 use Rattle.tree_value.specs.Trees.{path_cmp}
 
 same : (a b : List ℕ) → eq_by_cmp path_cmp a b ≡ true → a ≡ b

@@ -1,5 +1,5 @@
 -- The names of a task's files are paths, and names of different tasks, kinds and numbers differ.
-use Rattle.std.proofs.Common.{◌≡◌, ◌≢◌, ℕ, zero, suc, ◌+◌, ◌%◌, ◌^◌, ◌<◌, ◌≤◌, ◌==◌, ◌||◌, Bool, true, false, IsTrue, List, [], ◌∷◌, ◌++◌, length, codes, slice_index, cond, Contains, IsUtf8, IsAscii, inl, inr, refl, sym, ap, ap₂, subst, ◌∙◌, arith, lit<, append_assoc, true≢false}
+use Rattle.std.proofs.Common.{◌≡◌, ◌≢◌, ℕ, zero, suc, ◌+◌, ◌%◌, ◌^◌, ◌<◌, ◌≤◌, ◌==◌, ◌||◌, Bool, true, false, IsTrue, List, [], ◌∷◌, ◌++◌, length, codes, cond, Contains, IsUtf8, IsAscii, inl, inr, refl, sym, ap, subst, ◌∙◌, arith, lit<, append_assoc, true≢false}
 use Rattle.std.specs.Char.{is_ascii_alphabetic}
 use Rattle.std.specs.Fmt.{decimal}
 use Rattle.std.specs.List.{All, AllByRecursion, onto_first, slice_split}
@@ -7,13 +7,13 @@ use Rattle.std.proofs.lemmas.Bool.{ne_eqb}
 use Rattle.std.proofs.lemmas.Bool.Decides.{nat_tests}
 use Rattle.std.proofs.lemmas.Fmt.{decimal_by_steps, decimal_injective, length-decimal-le}
 use Rattle.std.proofs.lemmas.List.{length-append}
-use Rattle.std.proofs.lemmas.List.Elements.{All-weaker, All-append, All-cons, All-nil, All-from_recursion, recursion_from_All}
+use Rattle.std.proofs.lemmas.List.Elements.{All-weaker, All-from_recursion, recursion_from_All}
 use Rattle.std.proofs.lemmas.List.Splits.{length-slice_split}
 use Rattle.std.proofs.lemmas.Str.{IsUtf8-from_ascii}
 use Rattle.tree_value.specs.Paths.{IsPath, IsSegment, segments}
 use Rattle.value_text.specs.Texts.{slashed}
 use Rattle.out_store.specs.Names.{is_word_byte, IsTaskPart, IsTaskName, IsNumber, IsOf, Lacks, entry_name, log_name, generation_name}
-use Rattle.out_store.proofs.Cuts.{lacks_append, first_cut, exchange, exchange-exchange, lacks-exchange, split-append, onto_last, split-onto_last, one_part}
+use Rattle.out_store.proofs.Cuts.{first_cut, exchange, exchange-exchange, lacks-exchange, split-append, onto_last, split-onto_last, one_part}
 
 -- ---- the bytes of a task's name
 

@@ -1,5 +1,5 @@
 -- The next number, and which are used after it was taken.
-use Rattle.std.proofs.Common.{◌≡◌, ◌≢◌, ◌↔◌, ℕ, ◌+◌, ◌^◌, ◌<◌, ◌≤◌, ◌⊎◌, inl, inr, Bool, true, false, cond, List, Option, Some, None, refl, sym, ap, subst, ◌∙◌, arith}
+use Rattle.std.proofs.Common.{◌≡◌, ◌↔◌, ℕ, ◌+◌, ◌^◌, ◌<◌, ◌≤◌, ◌⊎◌, inl, inr, true, false, cond, List, Option, Some, refl, sym, ap, subst, ◌∙◌, arith}
 use Rattle.std.specs.BTreeMap.{get}
 use Rattle.std.specs.Option.{unwrap_or}
 use Rattle.std.specs.Ordering.{eq_by_cmp, is_eq}
@@ -8,7 +8,7 @@ use Rattle.std.proofs.lemmas.Cmp.{nat_list_cmp_total, tied_itself}
 use Rattle.std.proofs.lemmas.Map.Lookups.{exact_bytes}
 use Rattle.std.proofs.lemmas.Map.Views.{tells_apart}
 use Rattle.std.proofs.lemmas.Option.{same_Some}
-use Rattle.out_store.specs.Numbers.{IsOpening, IsUsed, IsNext, IsNextBehind, Takes, UsesTheSame, last_taken}
+use Rattle.out_store.specs.Numbers.{IsUsed, IsNext, IsNextBehind, Takes, UsesTheSame, last_taken}
 use Rattle.out_store.specs.declared.numbers.Numbers.{Numbers}
 use Rattle.tree_value.specs.Trees.{path_cmp}
 

@@ -1,11 +1,10 @@
 -- The entry of a run, and what it puts.
-use Rattle.std.proofs.Common.{◌≡◌, ℕ, ◌<◌, ◌≤◌, ◌⊎◌, inl, inr, Bool, true, false, ◌&&◌, IsTrue, List, [], ◌∷◌, ◌++◌, length, map, All, Option, Some, None, refl, sym, ap, ap₂, subst, ◌∙◌, arith}
+use Rattle.std.proofs.Common.{◌≡◌, ℕ, ◌&&◌, List, [], ◌∷◌, All, Option, refl, sym, ap, ap₂, subst, ◌∙◌}
 use Rattle.std.specs.FinMap.Entries.{is_sorted, below_all}
 use Rattle.std.specs.Ordering.{is_lt}
 use Rattle.std.proofs.lemmas.List.Elements.{All-map}
 use Rattle.io_traits.specs.Files.{File, Files}
 use Rattle.out_entry.specs.Entries.{IsFileName, IsEntry, entry_text}
-use Rattle.out_entry.specs.declared.entry.Entry.{Entry}
 use Rattle.out_store.specs.Changes.{puts_in, LeftByPuts}
 use Rattle.out_store.specs.Names.{IsNumber, entry_name, log_name}
 use Rattle.out_store.specs.Publishing.{digests, entry_of, dest_puts, puts_of, log_text}

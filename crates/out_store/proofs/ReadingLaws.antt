@@ -1,9 +1,8 @@
 -- What a name is of, as it is read.
-use Rattle.std.proofs.Common.{◌≡◌, ◌≢◌, ℕ, ◌+◌, ◌<◌, ◌≤◌, Bool, true, false, List, [], ◌∷◌, ◌++◌, length, take, drop, codes, nat_eq, Option, Some, None, refl, sym, ap, ap₂, subst, ◌∙◌, arith, append_assoc, true≢false}
+use Rattle.std.proofs.Common.{◌≡◌, ℕ, List, ◌∷◌, ◌++◌, drop, codes, refl, sym, ap, ap₂, subst, ◌∙◌}
 use Rattle.std.specs.Fmt.{decimal}
-use Rattle.std.specs.Cmp.Lexicographic.{pointwise}
 use Rattle.value_text.specs.Texts.{slashed}
-use Rattle.out_store.specs.Names.{IsTaskName, IsNumber, IsOf, IsCut, Lacks, in_generation, generation_name, entry_name}
+use Rattle.out_store.specs.Names.{IsTaskName, IsNumber, IsOf, IsCut, Lacks, in_generation, entry_name}
 use Rattle.out_store.proofs.Cuts.{first_cut, not_lacking, exchange, exchange-exchange}
 use Rattle.out_store.proofs.NameLaws.{no_dot, dotted, no_slash_number}
 

@@ -1,23 +1,15 @@
 -- What the results stand for after a put or a removal, and after rows of them.
-use Rattle.std.proofs.Common.{◌≡◌, ◌≢◌, ◌↔◌, ℕ, zero, suc, ◌+◌, ◌<◌, ◌≤◌, ◌⊎◌, inl, inr, List, [], ◌∷◌, ◌++◌, length, map, Contains, Option, Some, None, refl, sym, ap, ap₂, subst, ◌∙◌, arith}
-use Rattle.std.specs.List.{AllByRecursion}
+use Rattle.std.proofs.Common.{◌≡◌, ◌≢◌, ℕ, inl, inr, List, Some, None, sym, ap, subst, ◌∙◌}
 use Rattle.std.proofs.lemmas.Option.{same_Some}
-use Rattle.io_traits.specs.Files.{File, Files, get, insert, remove, put_in, take_out, LeftByPut, LeftByRemove}
-use Rattle.out_entry.specs.Entries.{Keeps, entry_text}
+use Rattle.io_traits.specs.Files.{Files, get, insert, remove}
+use Rattle.out_entry.specs.Entries.{entry_text}
 use Rattle.out_entry.specs.declared.entry.Entry.{Entry}
 use Rattle.out_entry.proofs.EntryText.{entry_text-injective}
-use Rattle.out_store.specs.Changes.{puts_in, takes_out, LeftByPuts, LeftByRemoves}
-use Rattle.out_store.specs.Generations.{Reads, IsThere, IsPublished, IsUnpublished}
-use Rattle.out_store.specs.Names.{IsTaskName, IsNumber, IsOf, entry_name, log_name, generation_name}
-use Rattle.out_store.specs.Numbers.{IsUsed, Knows, KnowsIn, Takes, UsesTheSame, IsNext}
-use Rattle.out_store.specs.Publishing.{digests, entry_of, dest_puts, puts_of, log_text, LeftByPublish}
-use Rattle.out_store.specs.Standing.{Row, IsOfRow, HasFiles, Stands, StandsIn, row_of}
-use Rattle.out_store.specs.declared.finished.Finished.{Finished}
-use Rattle.out_store.specs.declared.numbers.Numbers.{Numbers}
-use Rattle.out_store.proofs.ChangeLaws.{left_split, puts_in-append}
-use Rattle.out_store.proofs.FileLaws.{decide, get_insert, get_insert_other, get_remove, get_remove_other}
-use Rattle.out_store.proofs.NameLaws.{same_generation, one_generation, entry_not_generation, log_not_generation, entry_not_log, same_entry}
-use Rattle.sha2.specs.Sha256.{sha256}
+use Rattle.out_store.specs.Generations.{Reads, IsPublished}
+use Rattle.out_store.specs.Names.{IsTaskName, IsNumber, entry_name, log_name, generation_name}
+use Rattle.out_store.specs.Standing.{Row, HasFiles, Stands}
+use Rattle.out_store.proofs.FileLaws.{decide, get_insert_other, get_remove, get_remove_other}
+use Rattle.out_store.proofs.NameLaws.{same_generation, entry_not_generation, log_not_generation, entry_not_log}
 
 -- ---- entries that read
 
@@ -80,7 +72,7 @@ stands_unread files task rows lost named = stands_kept files (remove files (entr
 
 -- ---- a log's name is aside
 
-log_aside : (files : Files) (task : List ℕ) → IsTaskName task → IsAside files (log_name task)
+pub log_aside : (files : Files) (task : List ℕ) → IsTaskName task → IsAside files (log_name task)
 log_aside files task named = record {
   no_entry = λ t name e. entry_not_log t task name named e;
   no_file = λ t entry reads path e. log_not_generation task entry.task entry.generation path named (subst IsTaskName (sym reads.own) reads.named) (sym e);

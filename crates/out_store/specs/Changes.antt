@@ -1,5 +1,5 @@
 -- Files put or taken away one after another, and what is left where one of these calls is refused.
-use Rattle.std.specs.Prelude.{◌≡◌, ℕ, ◌⊎◌, List, [], ◌∷◌, Option, Contains}
+use Rattle.std.specs.Prelude.{◌≡◌, ℕ, ◌⊎◌, List, [], ◌∷◌, Option}
 use Rattle.std.specs.Option.{option_map}
 use Rattle.io_traits.specs.Files.{File, Files, get, put_in, take_out, LeftByPut, LeftByRemove}
 

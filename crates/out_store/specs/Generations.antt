@@ -1,9 +1,9 @@
 -- Entries that are readable, and the generations that they publish.
-use Rattle.std.specs.Prelude.{◌≡◌, ◌≢◌, ℕ, ◌+◌, ◌<◌, ◌≤◌, ◌⊎◌, List, Option, Some, None, Contains}
+use Rattle.std.specs.Prelude.{◌≡◌, ◌≢◌, ℕ, List, Option, Some, None, Contains}
 use Rattle.io_traits.specs.Files.{Files, get}
 use Rattle.out_entry.specs.Entries.{Keeps, entry_text}
 use Rattle.out_entry.specs.declared.entry.Entry.{Entry}
-use Rattle.out_store.specs.Names.{IsTaskName, IsOf, IsNumber, entry_name}
+use Rattle.out_store.specs.Names.{IsTaskName, IsOf, entry_name}
 
 -- among the files stands the entry of the task: its bytes, under the task's entry name
 pub record Reads (files : Files) (task : List ℕ) (entry : Entry) : Type 0 where

@@ -3,5 +3,6 @@ pub mod Faults
 pub mod Generations
 pub mod Names
 pub mod Numbers
+pub mod Opening
 pub mod Publishing
 pub mod Standing

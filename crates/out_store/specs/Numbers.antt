@@ -1,5 +1,5 @@
 -- Which numbers of generations are in use.
-use Rattle.std.specs.Prelude.{◌≡◌, ◌≢◌, ◌↔◌, ℕ, ◌+◌, ◌^◌, ◌<◌, ◌≤◌, ◌⊎◌, List, Option, Some, None, Contains}
+use Rattle.std.specs.Prelude.{◌≡◌, ◌≢◌, ◌↔◌, ℕ, ◌+◌, ◌<◌, ◌≤◌, ◌⊎◌, List, Option, Some, None}
 use Rattle.std.specs.BTreeMap.{get}
 use Rattle.std.specs.Option.{unwrap_or}
 use Rattle.io_traits.specs.Files.{Files}

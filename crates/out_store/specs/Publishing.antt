@@ -2,7 +2,7 @@
 use Rattle.std.specs.Prelude.{◌≡◌, ◌⊎◌, ℕ, List, [], ◌∷◌, ◌++◌, map, flat_map, Option, Contains}
 use Rattle.std.specs.Str.{byte}
 use Rattle.io_traits.specs.Files.{File, Files}
-use Rattle.out_entry.specs.Entries.{entry_text}
+use Rattle.out_entry.specs.Entries.{HasParts, entry_text}
 use Rattle.out_entry.specs.declared.entry.Entry.{Entry}
 use Rattle.out_store.specs.Changes.{LeftByPuts}
 use Rattle.out_store.specs.Numbers.{IsNext, Takes, UsesTheSame}
@@ -49,3 +49,10 @@ LeftByPublish run old new before now =
 -- the name is one of those that the run puts under the next number
 abbrev pub IsPut : Finished → Numbers → List ℕ → Type 0
 IsPut run numbers name = (number : ℕ) × IsNext numbers run.task number × Contains (map (λ file. file.0) (puts_of run number)) name
+
+-- how a publishing went, whole or refused: as above, where the run's entry has its parts if anything was put
+abbrev pub WentBy : Finished → Numbers → Numbers → Option Files → Option Files → Type 0
+WentBy run old new before now =
+    (UsesTheSame old new × (now ≡ before))
+    ⊎ ((number : ℕ) × IsNext old run.task number × Takes old run.task number new
+    × ((now ≡ before) ⊎ (HasParts (entry_of run number) × LeftByPuts (puts_of run number) before now)))

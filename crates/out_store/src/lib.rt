@@ -8,11 +8,13 @@ mod fault;
 mod finished;
 mod names;
 mod numbers;
+mod opening;
 mod putting;
 mod reading;
 mod removing;
 mod store;
 
 pub use fault::OutFault;
-pub use finished::Finished;
+pub use finished::{Finished, is_dest};
+pub use names::{MAX_PART_LEN, MAX_TASK_LEN, is_task};
 pub use store::Out;

@@ -30,11 +30,18 @@ fn is_task_part(bytes: &[u8]) -> bool
         && bytes.iter().all(|byte| is_word_byte(*byte))
 }
 
-/// Whether the bytes are the name of a task.
-pub fn is_task_name(bytes: &[u8]) -> bool
+fn is_task_name(bytes: &[u8]) -> bool
     ensures { IsTrue result ↔ IsTaskName bytes.now }
 {
     bytes.len() <= MAX_TASK_LEN && bytes.split(|byte| *byte == b'.').all(is_task_part)
+}
+
+/// Whether the text is the name of a task: parts joined by dots, each a letter and more letters, digits, `-` and
+/// `_`.
+pub fn is_task(task: &Text) -> bool
+    ensures { IsTrue result ↔ IsTaskName task.now }
+{
+    is_task_name(task.as_slice())
 }
 
 // The bytes with one byte in the place of another.

@@ -1,10 +1,11 @@
 //! The numbers of generations that are in use.
 
-ghost use Rattle.std.specs.Prelude.{◌≡◌, ℕ, List, if◌then◌else◌, IfOk, IfSome, OnOk, OnErr, Some, ◌<◌, ◌^◌};
+ghost use Rattle.std.specs.Prelude.{◌≡◌, ◌↔◌, ℕ, List, if◌then◌else◌, IfOk, IfSome, OnOk, OnErr, IsTrue, Some, None, ◌<◌, ◌^◌};
 ghost use Rattle.std.specs.Ordering.{eq_by_cmp};
 ghost use Rattle.std.specs.BTreeMap.{get};
 ghost use Rattle.tree_value.specs.Trees.{path_cmp};
-ghost use Rattle.out_store.specs.Numbers.{IsNext, IsNextBehind, Takes, UsesTheSame, last_taken};
+ghost use Rattle.out_store.specs.Opening.{NoneTaken};
+ghost use Rattle.out_store.specs.Numbers.{IsNext, IsNextBehind, IsOpening, Takes, UsesTheSame, last_taken};
 
 use std::alloc::Global;
 use std::collections::BTreeMap;
@@ -32,6 +33,33 @@ fn next_number(last: u32, opening: Option<u32>) -> Option<u32>
 }
 
 impl Numbers {
+    /// No entry was readable, and nothing is taken.
+    pub(crate) fn none(alloc: Global) -> Numbers
+        ensures opening { (t : List ℕ) → get path_cmp result.opening t ≡ None }
+        ensures taken { NoneTaken result }
+    {
+        Numbers {
+            opening: BTreeMap::new(alloc),
+            taken: BTreeMap::new(alloc),
+        }
+    }
+
+    /// Notes the generation of an entry of the task.
+    pub(crate) fn open(&mut self, task: Text, number: u32) -> Result<(), CopyFault>
+        ensures opening { OnOk result ((t : List ℕ) → get path_cmp self.new.opening t ≡ (if eq_by_cmp path_cmp task t then Some number else get path_cmp self.old.opening t)) }
+        ensures taken { self.new.taken ≡ self.old.taken }
+    {
+        self.opening.insert(task, number)?;
+        Ok(())
+    }
+
+    /// Whether the number is that of the entry of the task that was readable at the start.
+    pub(crate) fn is_opening(&self, task: &Text, number: u32) -> bool
+        ensures { IsTrue result ↔ IsOpening self.now task.now number }
+    {
+        self.opening.get(task).copied() == Some(number)
+    }
+
     fn last_taken(&self, task: &Text) -> u32
         ensures { result ≡ last_taken self.now task.now }
     {

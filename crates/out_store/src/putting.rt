@@ -1,16 +1,18 @@
 //! Putting what a run gave.
 
 ghost use Rattle.std.specs.Prelude.{◌≡◌, ◌≤◌, ◌∷◌, [], All, OnOk, OnErr, IfOk};
-ghost use Rattle.out_entry.specs.Entries.{IsFileName, IsEntry, entry_text};
+ghost use Rattle.out_entry.specs.Entries.{IsFileName, IsEntry, HasParts, entry_text};
 ghost use Rattle.out_store.specs.Changes.{puts_in, LeftByPuts};
 ghost use Rattle.out_store.specs.Faults.{HasCause};
 ghost use Rattle.out_store.specs.Names.{IsTaskName, IsNumber, entry_name, log_name};
+ghost use Rattle.out_store.specs.Numbers.{IsNext, Takes};
 ghost use Rattle.tree_value.specs.Trees.{IsTree};
-ghost use Rattle.out_store.specs.Publishing.{log_text, digests, entry_of, dest_puts};
+ghost use Rattle.out_store.specs.Publishing.{log_text, digests, entry_of, dest_puts, puts_of, WentBy};
 
 use crate::fault::OutFault;
 use crate::finished::Finished;
 use crate::names::{entry_name, generation_name, log_name};
+use crate::numbers::Numbers;
 use io_traits::Store;
 use out_entry::{Entry, entry_bytes};
 use sha2::{Digest as Hasher, Sha256};
@@ -61,7 +63,8 @@ fn entry_of(alloc: Global, run: &Finished, number: u32) -> Result<Entry, CopyFau
 
 fn bytes_of(alloc: Global, entry: &Entry) -> Result<Bytes, CopyFault>
     requires { IsEntry entry.now }
-    ensures { IfOk result (λ bytes. bytes ≡ entry_text entry.now) }
+    ensures bytes { IfOk result (λ bytes. bytes ≡ entry_text entry.now) }
+    ensures parts { OnOk result (HasParts entry.now) }
 {
     match entry_bytes(alloc, entry) {
         Ok(bytes) => Ok(bytes),
@@ -87,6 +90,7 @@ impl Texts {
         ensures log { IfOk result (λ texts. texts.log ≡ log_text run.now.log) }
         ensures entry_name { IfOk result (λ texts. texts.entry_name ≡ entry_name run.now.task) }
         ensures entry { IfOk result (λ texts. texts.entry ≡ entry_text (entry_of run.now number)) }
+        ensures parts { OnOk result (HasParts (entry_of run.now number)) }
     {
         prove_tree(&run.dest);
         let entry = entry_of(alloc, run, number)?;
@@ -132,4 +136,51 @@ pub(crate) fn put_dest<S: Store>(
         store.put(&name, bytes)?;
     }
     Ok(())
+}
+
+/// Puts the files of the run's dest, the log and the entry.
+fn put_run<S: Store>(
+    alloc: Global,
+    store: &mut S,
+    run: &Finished,
+    number: u32,
+    texts: &Texts,
+) -> Result<(), OutFault>
+    requires task { IsTaskName run.now.task }
+    requires number { IsNumber number }
+    requires files { All IsFileName run.now.dest }
+    requires log_name { texts.now.log_name ≡ log_name run.now.task }
+    requires log { texts.now.log ≡ log_text run.now.log }
+    requires entry_name { texts.now.entry_name ≡ entry_name run.now.task }
+    requires entry { texts.now.entry ≡ entry_text (entry_of run.now number) }
+    ensures ok { OnOk result (S.content store.new ≡ puts_in (puts_of run.now number) (S.content store.old)) }
+    ensures err { OnErr result (LeftByPuts (puts_of run.now number) (S.content store.old) (S.content store.new)) }
+    ensures cause { HasCause (S.faults store.old) (S.faults store.new) result }
+    ensures kept { S.kept store.new ≡ S.kept store.old }
+{
+    put_dest(alloc, store, &run.task, number, run.dest.as_slice())?;
+    texts.put(store)?;
+    Ok(())
+}
+
+/// Takes the next number, and puts what the run gave under it.
+pub(crate) fn put_next<S: Store>(
+    alloc: Global,
+    store: &mut S,
+    numbers: &mut Numbers,
+    run: &Finished,
+) -> Result<u32, OutFault>
+    requires task { IsTaskName run.now.task }
+    requires files { All IsFileName run.now.dest }
+    ensures next { IfOk result (IsNext numbers.old run.now.task) }
+    ensures taken { IfOk result (λ number. Takes numbers.old run.now.task number numbers.new) }
+    ensures ok { IfOk result (λ number. S.content store.new ≡ puts_in (puts_of run.now number) (S.content store.old)) }
+    ensures went { WentBy run.now numbers.old numbers.new (S.content store.old) (S.content store.new) }
+    ensures cause { HasCause (S.faults store.old) (S.faults store.new) result }
+    ensures kept { S.kept store.new ≡ S.kept store.old }
+{
+    let number = numbers.take(&run.task)?;
+    let texts = Texts::of(alloc, run, number)?;
+    put_run(alloc, store, run, number, &texts)?;
+    Ok(number)
 }

@@ -1,19 +1,23 @@
 //! The store of results.
 
-ghost use Rattle.std.specs.Prelude.{◌≡◌, ◌∷◌, [], All, IfOk, IfSome, OnOk, OnErr};
+ghost use Rattle.std.specs.Prelude.{◌≡◌, ◌⊎◌, ◌∷◌, [], ℕ, List, All, ◌≤◌, IfOk, IfErr, IfSome, IsSome, MatchResult, OnOk, OnErr};
 ghost use Rattle.out_entry.specs.Entries.{IsFileName};
-ghost use Rattle.out_store.specs.Changes.{puts_in, takes_out, LeftByPuts, LeftByRemoves, OthersStay};
+ghost use Rattle.out_store.specs.Changes.{puts_in, takes_out, LeftByRemoves, OthersStay};
 ghost use Rattle.out_store.specs.Faults.{HasCause};
 ghost use Rattle.out_store.specs.Generations.{IsFound};
-ghost use Rattle.out_store.specs.Names.{IsTaskName, IsNumber, entry_name, log_name};
-ghost use Rattle.out_store.specs.Numbers.{IsNext, Takes};
+ghost use Rattle.out_store.specs.Names.{IsTaskName, entry_name, log_name};
+ghost use Rattle.out_store.specs.Numbers.{IsNext, Takes, KnowsIn};
+ghost use Rattle.io_traits.specs.Causes.{Rose};
+ghost use Rattle.out_store.specs.Opening.{IsOpened, LeftByOpening, PublishedStay};
 ghost use Rattle.out_store.specs.Publishing.{puts_of, LeftByPublish, IsPut};
+ghost use Rattle.out_store.specs.Standing.{Row, StandsIn, row_of};
 
 use crate::fault::OutFault;
 use crate::finished::Finished;
 use crate::names::{entry_name, log_name};
 use crate::numbers::Numbers;
-use crate::putting::{Texts, put_dest};
+use crate::opening::open;
+use crate::putting::put_next;
 use crate::reading::look;
 use crate::removing::remove_two;
 use io_traits::Store;
@@ -29,6 +33,29 @@ pub struct Out<S> {
 }
 
 impl<S: Store> Out<S> {
+    /// Opens the store: lists it, reads all entries, and takes away the generations that none of them publishes.
+    pub fn start(alloc: Global, store: S) -> Result<Out<S>, (S, OutFault)>
+        ensures ok { IfOk result (λ out. IsOpened (S.content store) (S.content out.store) out.numbers) }
+        ensures err { IfErr result (λ refused. LeftByOpening (S.content store) (S.content refused.0)) }
+        ensures others { MatchResult result (λ out. PublishedStay (S.content store) (S.content out.store)) (λ refused. PublishedStay (S.content store) (S.content refused.0)) }
+        ensures knows { IfOk result (λ out. IsSome (S.content store) → KnowsIn (S.content out.store) out.numbers) }
+        ensures stands { (rows : List Row) (lost : List (List ℕ)) → StandsIn (S.content store) rows lost
+            → MatchResult result (λ out. StandsIn (S.content out.store) rows lost) (λ refused. StandsIn (S.content refused.0) rows lost) }
+        ensures later { MatchResult result (λ out. S.faults store ≤ S.faults out.store) (λ refused. S.faults store ≤ S.faults refused.0) }
+        ensures fault { IfErr result (λ refused. refused.1 ≡ OutFault.Fault → Rose (S.faults store) (S.faults refused.0)) }
+        ensures kept { MatchResult result (λ out. S.kept out.store ≡ S.kept store) (λ refused. S.kept refused.0 ≡ S.kept store) }
+    {
+        let mut store = store;
+        match open(alloc, &mut store) {
+            Ok(numbers) => Ok(Out {
+                store,
+                numbers,
+                alloc,
+            }),
+            Err(fault) => Err((store, fault)),
+        }
+    }
+
     /// The entry of the task, or `None` where what stands under its name isn't one.
     pub fn entry(&mut self, task: &Text) -> Result<Option<Entry>, OutFault>
         requires { IsTaskName task.now }
@@ -47,6 +74,9 @@ impl<S: Store> Out<S> {
         requires { IsTaskName task.now }
         ensures ok { OnOk result (S.content self.new.store ≡ takes_out (entry_name task.now ∷ log_name task.now ∷ []) (S.content self.old.store)) }
         ensures err { OnErr result (LeftByRemoves (entry_name task.now ∷ log_name task.now ∷ []) (S.content self.old.store) (S.content self.new.store)) }
+        ensures others { OthersStay (λ name. (name ≡ entry_name task.now) ⊎ (name ≡ log_name task.now)) (S.content self.old.store) (S.content self.new.store) }
+        ensures knows { KnowsIn (S.content self.old.store) self.old.numbers → KnowsIn (S.content self.new.store) self.new.numbers }
+        ensures stands { (rows : List Row) (lost : List (List ℕ)) → StandsIn (S.content self.old.store) rows lost → StandsIn (S.content self.new.store) rows lost }
         ensures numbers { self.new.numbers ≡ self.old.numbers }
         ensures cause { HasCause (S.faults self.old.store) (S.faults self.new.store) result }
         ensures kept { S.kept self.new.store ≡ S.kept self.old.store }
@@ -65,12 +95,13 @@ impl<S: Store> Out<S> {
         ensures taken { IfOk result (λ number. Takes self.old.numbers run.now.task number self.new.numbers) }
         ensures ok { IfOk result (λ number. S.content self.new.store ≡ puts_in (puts_of run.now number) (S.content self.old.store)) }
         ensures err { OnErr result (LeftByPublish run.now self.old.numbers self.new.numbers (S.content self.old.store) (S.content self.new.store)) }
+        ensures others { OthersStay (IsPut run.now self.old.numbers) (S.content self.old.store) (S.content self.new.store) }
+        ensures knows { KnowsIn (S.content self.old.store) self.old.numbers → KnowsIn (S.content self.new.store) self.new.numbers }
+        ensures stands { (rows : List Row) (lost : List (List ℕ)) → KnowsIn (S.content self.old.store) self.old.numbers → StandsIn (S.content self.old.store) rows lost → StandsIn (S.content self.new.store) (row_of run.now ∷ rows) lost }
         ensures cause { HasCause (S.faults self.old.store) (S.faults self.new.store) result }
         ensures kept { S.kept self.new.store ≡ S.kept self.old.store }
     {
-        let number = self.numbers.take(&run.task)?;
-        put_run(self.alloc, &mut self.store, run, number)?;
-        Ok(number)
+        put_next(self.alloc, &mut self.store, &mut self.numbers, run)
     }
 
     /// The store.
@@ -84,25 +115,4 @@ impl<S: Store> Out<S> {
         } = self;
         store
     }
-}
-
-// Puts what the run gave under the number.
-fn put_run<S: Store>(
-    alloc: Global,
-    store: &mut S,
-    run: &Finished,
-    number: u32,
-) -> Result<(), OutFault>
-    requires task { IsTaskName run.now.task }
-    requires number { IsNumber number }
-    requires files { All IsFileName run.now.dest }
-    ensures ok { OnOk result (S.content store.new ≡ puts_in (puts_of run.now number) (S.content store.old)) }
-    ensures err { OnErr result (LeftByPuts (puts_of run.now number) (S.content store.old) (S.content store.new)) }
-    ensures cause { HasCause (S.faults store.old) (S.faults store.new) result }
-    ensures kept { S.kept store.new ≡ S.kept store.old }
-{
-    let texts = Texts::of(alloc, run, number)?;
-    put_dest(alloc, store, &run.task, number, run.dest.as_slice())?;
-    texts.put(store)?;
-    Ok(())
 }

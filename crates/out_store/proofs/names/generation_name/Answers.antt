@@ -1,4 +1,4 @@
-use Rattle.std.proofs.Common.{◌≡◌, ℕ, List, ◌++◌, sym, subst, ◌∙◌}
+use Rattle.std.proofs.Common.{ℕ, List, ◌++◌, sym, subst, ◌∙◌}
 use Rattle.tree_value.specs.Paths.{IsPath}
 use Rattle.value_text.specs.Texts.{slashed}
 use Rattle.out_store.proofs.NameLaws.{generation_path}

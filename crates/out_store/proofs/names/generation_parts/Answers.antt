@@ -1,8 +1,8 @@
-use Rattle.std.proofs.Common.{◌≡◌, ℕ, List, ◌++◌, ◌∷◌, length, take, drop, codes, nat_eq, true, false, refl, sym, subst, ap, ◌∙◌, true≢false}
+use Rattle.std.proofs.Common.{◌≡◌, ℕ, List, ◌++◌, ◌∷◌, length, take, drop, codes, nat_eq, true, false, sym, subst, ap, ◌∙◌, true≢false}
 use Rattle.std.specs.Cmp.Lexicographic.{pointwise}
 use Rattle.std.proofs.lemmas.List.{take-append-drop}
 use Rattle.std.proofs.lemmas.Slice.Eq.{bytes_eq-Decides}
-use Rattle.out_store.specs.Names.{IsCut, Lacks}
+use Rattle.out_store.specs.Names.{IsCut}
 use Rattle.out_store.proofs.ReadingLaws.{no_parts_no_dot, behind_dot, whole_again, not_cut}
 use Rattle.out_store.proofs.names.generation_parts.Goals as goal
 

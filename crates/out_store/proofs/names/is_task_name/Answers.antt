@@ -1,11 +1,10 @@
-use Rattle.std.proofs.Common.{rules, arith, tests, refl, ◌≡◌, ◌↔◌, IsTrue, ℕ, ◌≤◌, ◌<◌, length, Bool, true, false, List, [], eqb, ◌==◌}
+use Rattle.std.proofs.Common.{rules, arith, tests, refl, ◌↔◌, IsTrue, ℕ, ◌≤◌, ◌<◌, length, Bool, true, false, List, [], eqb, ◌==◌}
 use Rattle.std.specs.Bool.{MatchBool}
 use Rattle.std.specs.List.{AllWithin, HoldsAt, slice_split}
 use Rattle.std.proofs.lemmas.Iterator.{cases_from_all}
 use Rattle.std.proofs.lemmas.Iterator.Splits.{YieldsList-from_slice_split}
 use Rattle.out_store.specs.Names.{IsTaskName, IsTaskPart}
 use Rattle.out_store.proofs.names.is_task_name.Goals as goal
-use Rattle.out_store.proofs.NameLaws.{entry_path}
 
 abbrev parts : List ℕ → List (List ℕ)
 parts bytes = slice_split (λ b. b == 46) bytes

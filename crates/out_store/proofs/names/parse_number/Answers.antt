@@ -1,4 +1,4 @@
-use Rattle.std.proofs.Common.{ℕ, sym, ◌∙◌, ap, subst, IsUtf8, arith, ◌<◌, ◌^◌}
+use Rattle.std.proofs.Common.{sym, ◌∙◌, ap, subst, IsUtf8, arith, ◌<◌, ◌^◌}
 use Rattle.std.specs.Result.{result_ok}
 use Rattle.std.proofs.lemmas.Fmt.{parse-decimal}
 use Rattle.out_store.proofs.NameLaws.{decimal_text}

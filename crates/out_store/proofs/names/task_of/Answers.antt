@@ -1,4 +1,4 @@
-use Rattle.std.proofs.Common.{◌≡◌, refl, sym, subst, ap, ◌∙◌, IsUtf8, IsTrue, Some, List, ℕ}
+use Rattle.std.proofs.Common.{◌≡◌, refl, sym, subst, ap, ◌∙◌, IsUtf8, Some}
 use Rattle.std.proofs.lemmas.Bool.{iff_false}
 use Rattle.out_store.specs.Names.{IsTaskName}
 use Rattle.out_store.proofs.NameLaws.{task_text}

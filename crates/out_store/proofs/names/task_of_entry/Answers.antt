@@ -1,8 +1,7 @@
-use Rattle.std.proofs.Common.{◌≡◌, ◌≢◌, ℕ, List, codes, not, nat_eq, true, false, true≢false, Option, Some, None, sym, subst, ap₂, ◌∙◌}
+use Rattle.std.proofs.Common.{◌≡◌, ℕ, List, codes, not, nat_eq, false, true≢false, sym, ap₂, ◌∙◌}
 use Rattle.std.specs.Cmp.Lexicographic.{pointwise}
-use Rattle.std.proofs.lemmas.Option.{same_Some}
 use Rattle.out_store.specs.Names.{IsCut}
-use Rattle.out_store.proofs.ReadingLaws.{not_cut, entry_folder, entry_again}
+use Rattle.out_store.proofs.ReadingLaws.{not_cut, entry_folder}
 use Rattle.out_store.proofs.names.task_of_entry.Goals as goal
 
 pub returns-in_default-clause-every : goal.returns-in_default-clause-every

@@ -1,6 +1,6 @@
-use Rattle.std.proofs.Common.{◌≡◌, ℕ, List, sym, ap, ap₂, subst, ◌∙◌, arith, inl, refl}
+use Rattle.std.proofs.Common.{ℕ, List, sym, ap, ap₂, subst, ◌∙◌, arith, inl, refl}
 use Rattle.std.proofs.lemmas.List.{take_all}
-use Rattle.io_traits.specs.Files.{File, Files, put_in, LeftByPut}
+use Rattle.io_traits.specs.Files.{File, put_in, LeftByPut}
 use Rattle.out_store.specs.Changes.{puts_in}
 use Rattle.out_store.specs.Names.{generation_name}
 use Rattle.out_store.specs.Publishing.{dest_puts}

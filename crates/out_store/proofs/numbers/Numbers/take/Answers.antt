@@ -2,7 +2,7 @@ use Rattle.std.proofs.Common.{◌≡◌, ◌<◌, ◌^◌, ℕ, List, Some, cond
 use Rattle.std.specs.BTreeMap.{get}
 use Rattle.std.specs.Ordering.{eq_by_cmp}
 use Rattle.tree_value.specs.Trees.{path_cmp}
-use Rattle.out_store.specs.Numbers.{IsNext, IsNextBehind}
+use Rattle.out_store.specs.Numbers.{IsNextBehind}
 use Rattle.out_store.proofs.NumberLaws.{next_behind, takes}
 use Rattle.out_store.proofs.numbers.Numbers.take.Goals as goal
 

@@ -1,7 +1,16 @@
-use Rattle.std.proofs.Common.{inr}
 use Rattle.out_store.proofs.ChangeLaws.{on_err}
+use Rattle.out_store.proofs.PublishStands.{went_left, went_others, went_stands, went_knows}
 use Rattle.out_store.proofs.store.Out.publish.Goals as goal
 
-pub returns-in_err-put_run-clause-err : goal.returns-in_err-put_run-clause-err
-returns-in_err-put_run-clause-err g c =
-    on_err c.from_residual-in_err-put_run.result (inr (c.in_ok-number.number, c.in_ok-number.ensures.next, c.in_ok-number.ensures.used, c.in_err-put_run.ensures.err))
+pub returns-clause-err : goal.returns-clause-err
+returns-clause-err g c = on_err c.put_next.result (went_left c.args.run.now c.args.self.now.numbers c.put_next.new.numbers (g.S.Store.content c.args.self.now.store) (g.S.Store.content c.put_next.new.store) c.requires.task c.put_next.ensures.went)
+
+pub returns-clause-others : goal.returns-clause-others
+returns-clause-others g c = went_others c.args.run.now c.args.self.now.numbers c.put_next.new.numbers (g.S.Store.content c.args.self.now.store) (g.S.Store.content c.put_next.new.store) c.requires.task c.put_next.ensures.went
+
+pub returns-clause-knows : goal.returns-clause-knows
+returns-clause-knows g c knows = went_knows c.args.run.now c.args.self.now.numbers c.put_next.new.numbers (g.S.Store.content c.args.self.now.store) (g.S.Store.content c.put_next.new.store) c.requires.task c.put_next.ensures.went knows
+
+pub returns-clause-stands : goal.returns-clause-stands
+returns-clause-stands g c rows lost knows stands =
+    went_stands c.args.run.now c.args.self.now.numbers c.put_next.new.numbers (g.S.Store.content c.args.self.now.store) (g.S.Store.content c.put_next.new.store) c.requires.task rows lost c.put_next.ensures.went knows stands
