@@ -26,6 +26,7 @@ use std::alloc::Global;
 use tree_value::Text;
 
 /// The results of tasks in a store, which is changed by this alone.
+#[derive(Drop)]
 pub struct Out<S> {
     store: S,
     numbers: Numbers,
