@@ -1,0 +1,269 @@
+//! Stack maps (JVMS 4.7.4).
+
+ghost use Rattle.std.specs.Prelude.{◌≡◌, [], ◌<◌, ◌-◌, Ok, Err};
+ghost use Rattle.class_text.specs.Readers.{many_at, counted_at};
+ghost use Rattle.class_text.specs.Frames.{typed_at, frame_type_at, with_item_at, with_locals_at, full_at, behind_delta_at, framed_at, frame_at};
+ghost use Rattle.class_read.specs.Faults.{Gives};
+
+use crate::class_fault::ClassFault;
+use crate::numbers::{place_of, u1_in, u2_in};
+use crate::targets::class_in;
+use class_model::{FrameType, FrameTypes, Pool, StackFrame, StackFrames};
+use sqlite_items::Items;
+use std::alloc::Global;
+
+/// What stands behind the tag of a type, which stands at a place.
+#[tactic(auto, unfolding(class_text::specs::Frames::typed_at))]
+fn typed_in<'a>(
+    pool: &Pool,
+    at: u32,
+    tag: u8,
+    end: u32,
+    bytes: &'a [u8],
+) -> Result<(FrameType, &'a [u8]), ClassFault>
+    ensures { Gives (λ r. (r.0, r.1.now)) result (typed_at pool.now at tag end bytes.now) }
+{
+    if tag < 7 {
+        return Ok((FrameType { tag, index: 0 }, bytes));
+    }
+    if tag == 7 {
+        let (index, rest) = class_in(pool, end, bytes)?;
+        return Ok((FrameType { tag, index }, rest));
+    }
+    if tag == 8 {
+        let (index, rest) = u2_in(end, bytes)?;
+        return Ok((FrameType { tag, index }, rest));
+    }
+    Err(ClassFault::BadTag(at, tag))
+}
+
+#[tactic(auto, unfolding(class_text::specs::Frames::frame_type_at))]
+fn frame_type_in<'a>(
+    pool: &Pool,
+    end: u32,
+    bytes: &'a [u8],
+) -> Result<(FrameType, &'a [u8]), ClassFault>
+    ensures { Gives (λ r. (r.0, r.1.now)) result (frame_type_at pool.now end bytes.now) }
+{
+    let (tag, rest) = u1_in(end, bytes)?;
+    typed_in(pool, place_of(end, bytes), tag, end, rest)
+}
+
+/// So many types.
+fn types_in<'a>(
+    alloc: Global,
+    pool: &Pool,
+    count: u16,
+    end: u32,
+    bytes: &'a [u8],
+) -> Result<(FrameTypes, &'a [u8]), ClassFault>
+    ensures { Gives (λ r. (r.0, r.1.now)) result (many_at (frame_type_at pool.now) count end bytes.now) }
+{
+    let mut items = Items::new(alloc);
+    let mut rest = bytes;
+    for i in 0..count {
+        match frame_type_in(pool, end, rest) {
+            Ok((item, more)) => {
+                items.push(item)?;
+                rest = more;
+            }
+            Err(fault) => return Err(fault),
+        }
+    }
+    Ok((items, rest))
+}
+
+/// Types behind their count.
+#[tactic(auto, unfolding(class_text::specs::Readers::counted_after))]
+fn counted_types_in<'a>(
+    alloc: Global,
+    pool: &Pool,
+    end: u32,
+    bytes: &'a [u8],
+) -> Result<(FrameTypes, &'a [u8]), ClassFault>
+    ensures { Gives (λ r. (r.0, r.1.now)) result (counted_at (frame_type_at pool.now) end bytes.now) }
+{
+    let (count, rest) = u2_in(end, bytes)?;
+    types_in(alloc, pool, count, end, rest)
+}
+
+/// A frame that writes one stack item.
+#[tactic(auto, unfolding(class_text::specs::Frames::with_item_at))]
+fn with_item_in<'a>(
+    alloc: Global,
+    pool: &Pool,
+    tag: u8,
+    delta: u16,
+    end: u32,
+    bytes: &'a [u8],
+) -> Result<(StackFrame, &'a [u8]), ClassFault>
+    ensures { Gives (λ r. (r.0, r.1.now)) result (with_item_at pool.now tag delta end bytes.now) }
+{
+    let (stack, rest) = types_in(alloc, pool, 1, end, bytes)?;
+    let locals = Items::new(alloc);
+    let frame = StackFrame {
+        tag,
+        delta,
+        locals,
+        stack,
+    };
+    Ok((frame, rest))
+}
+
+/// A frame that writes so many locals.
+#[tactic(auto, unfolding(class_text::specs::Frames::with_locals_at))]
+fn with_locals_in<'a>(
+    alloc: Global,
+    pool: &Pool,
+    tag: u8,
+    delta: u16,
+    many: u16,
+    end: u32,
+    bytes: &'a [u8],
+) -> Result<(StackFrame, &'a [u8]), ClassFault>
+    ensures { Gives (λ r. (r.0, r.1.now)) result (with_locals_at pool.now tag delta many end bytes.now) }
+{
+    let (locals, rest) = types_in(alloc, pool, many, end, bytes)?;
+    let stack = Items::new(alloc);
+    let frame = StackFrame {
+        tag,
+        delta,
+        locals,
+        stack,
+    };
+    Ok((frame, rest))
+}
+
+/// A frame that counts its locals and its stack items.
+#[tactic(auto, unfolding(class_text::specs::Frames::full_at))]
+fn full_in<'a>(
+    alloc: Global,
+    pool: &Pool,
+    tag: u8,
+    delta: u16,
+    end: u32,
+    bytes: &'a [u8],
+) -> Result<(StackFrame, &'a [u8]), ClassFault>
+    ensures { Gives (λ r. (r.0, r.1.now)) result (full_at pool.now tag delta end bytes.now) }
+{
+    let (locals, rest) = counted_types_in(alloc, pool, end, bytes)?;
+    let (stack, rest) = counted_types_in(alloc, pool, end, rest)?;
+    let frame = StackFrame {
+        tag,
+        delta,
+        locals,
+        stack,
+    };
+    Ok((frame, rest))
+}
+
+fn empty_frame(alloc: Global, tag: u8, delta: u16) -> StackFrame
+    ensures { result ≡ record { tag = tag; delta = delta; locals = []; stack = [] } }
+{
+    StackFrame {
+        tag,
+        delta,
+        locals: Items::new(alloc),
+        stack: Items::new(alloc),
+    }
+}
+
+/// What stands behind the delta of a frame.
+#[tactic(auto, unfolding(class_text::specs::Frames::behind_delta_at))]
+fn behind_delta_in<'a>(
+    alloc: Global,
+    pool: &Pool,
+    tag: u8,
+    delta: u16,
+    end: u32,
+    bytes: &'a [u8],
+) -> Result<(StackFrame, &'a [u8]), ClassFault>
+    ensures { Gives (λ r. (r.0, r.1.now)) result (behind_delta_at pool.now tag delta end bytes.now) }
+{
+    if tag == 247 {
+        return with_item_in(alloc, pool, tag, delta, end, bytes);
+    }
+    if tag < 252 {
+        return Ok((empty_frame(alloc, tag, delta), bytes));
+    }
+    if tag < 255 {
+        return with_locals_in(alloc, pool, tag, delta, u16::from(tag) - 251, end, bytes);
+    }
+    full_in(alloc, pool, tag, delta, end, bytes)
+}
+
+/// What stands behind the tag of a frame, which stands at a place.
+#[tactic(auto, unfolding(class_text::specs::Frames::framed_at))]
+fn framed_in<'a>(
+    alloc: Global,
+    pool: &Pool,
+    at: u32,
+    tag: u8,
+    end: u32,
+    bytes: &'a [u8],
+) -> Result<(StackFrame, &'a [u8]), ClassFault>
+    ensures { Gives (λ r. (r.0, r.1.now)) result (framed_at pool.now at tag end bytes.now) }
+{
+    if tag < 64 {
+        return Ok((empty_frame(alloc, tag, u16::from(tag)), bytes));
+    }
+    if tag < 128 {
+        return with_item_in(alloc, pool, tag, u16::from(tag) - 64, end, bytes);
+    }
+    if tag < 247 {
+        return Err(ClassFault::BadTag(at, tag));
+    }
+    let (delta, rest) = u2_in(end, bytes)?;
+    behind_delta_in(alloc, pool, tag, delta, end, rest)
+}
+
+#[tactic(auto, unfolding(class_text::specs::Frames::frame_at))]
+fn frame_in<'a>(
+    alloc: Global,
+    pool: &Pool,
+    end: u32,
+    bytes: &'a [u8],
+) -> Result<(StackFrame, &'a [u8]), ClassFault>
+    ensures { Gives (λ r. (r.0, r.1.now)) result (frame_at pool.now end bytes.now) }
+{
+    let (tag, rest) = u1_in(end, bytes)?;
+    framed_in(alloc, pool, place_of(end, bytes), tag, end, rest)
+}
+
+/// So many frames.
+fn some_frames_in<'a>(
+    alloc: Global,
+    pool: &Pool,
+    count: u16,
+    end: u32,
+    bytes: &'a [u8],
+) -> Result<(StackFrames, &'a [u8]), ClassFault>
+    ensures { Gives (λ r. (r.0, r.1.now)) result (many_at (frame_at pool.now) count end bytes.now) }
+{
+    let mut items = Items::new(alloc);
+    let mut rest = bytes;
+    for i in 0..count {
+        match frame_in(alloc, pool, end, rest) {
+            Ok((item, more)) => {
+                items.push(item)?;
+                rest = more;
+            }
+            Err(fault) => return Err(fault),
+        }
+    }
+    Ok((items, rest))
+}
+
+/// The frames of a stack map, behind their count.
+#[tactic(auto, unfolding(class_text::specs::Readers::counted_after))]
+pub(crate) fn frames_in<'a>(
+    alloc: Global,
+    pool: &Pool,
+    end: u32,
+    bytes: &'a [u8],
+) -> Result<(StackFrames, &'a [u8]), ClassFault>
+    ensures { Gives (λ r. (r.0, r.1.now)) result (counted_at (frame_at pool.now) end bytes.now) }
+{
+    let (count, rest) = u2_in(end, bytes)?;
+    some_frames_in(alloc, pool, count, end, rest)
+}

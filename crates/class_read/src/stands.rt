@@ -1,0 +1,131 @@
+//! Where attributes stand, and which of them were read there.
+
+ghost use Rattle.std.specs.Prelude.{◌≡◌, ◌++◌, ◌∷◌, [], ◌&&◌, bytes_eq, codes, map, OnOk};
+ghost use Rattle.class_model.specs.declared.attribute_forms.Attribute.{out-Attribute};
+ghost use Rattle.class_model.specs.Attributes.{is_known, attribute_name};
+ghost use Rattle.class_model.specs.Spelling.{name_of};
+ghost use Rattle.class_text.specs.Attributes.{text_of, is_first, own_name};
+ghost use Rattle.class_read.specs.Stands.{place_of, Keeps};
+
+use class_model::{Attribute, Attributes, Pool};
+use sqlite_items::Items;
+use std::alloc::{AllocError, Global};
+
+/// What attributes stand in; of a field its descriptor.
+#[derive(Clone, Copy)]
+pub(crate) enum Stand<'a> {
+    Class,
+    Field(&'a [u8]),
+    Method,
+    Code,
+}
+
+/// The name that is known there alone.
+pub(crate) fn own_name(stand: Stand<'_>) -> &'static [u8]
+    ensures { result.now ≡ own_name (place_of stand.entry) }
+{
+    match stand {
+        Stand::Class => b"BootstrapMethods",
+        Stand::Field(_) => b"ConstantValue",
+        Stand::Method => b"Code",
+        Stand::Code => b"StackMapTable",
+    }
+}
+
+fn is_annotations(text: &[u8]) -> bool
+    ensures { result ≡ bytes_eq text.now (codes "RuntimeVisibleAnnotations") }
+{
+    text == b"RuntimeVisibleAnnotations".as_slice()
+}
+
+#[tactic(auto, unfolding(class_model::specs::Attributes::is_known))]
+pub(crate) fn is_known(stand: Stand<'_>, text: &[u8]) -> bool
+    ensures { result ≡ is_known (place_of stand.entry) text.now }
+{
+    match stand {
+        Stand::Class => text == b"BootstrapMethods".as_slice() || is_annotations(text),
+        Stand::Field(_) => text == b"ConstantValue".as_slice() || is_annotations(text),
+        Stand::Method => text == b"Code".as_slice() || is_annotations(text),
+        Stand::Code => text == b"StackMapTable".as_slice(),
+    }
+}
+
+/// The text of a number, and nothing where it has none.
+pub(crate) fn text_of(pool: &Pool, number: u16) -> &[u8]
+    ensures { result.now ≡ text_of pool.now number }
+{
+    match pool.text(number) {
+        Some(text) => text,
+        None => &[],
+    }
+}
+
+fn name_of(attribute: &Attribute) -> u16
+    ensures { result ≡ name_of (out-Attribute attribute.now) }
+{
+    match attribute {
+        Attribute::Code { name, .. } => *name,
+        Attribute::StackMap { name, .. } => *name,
+        Attribute::ConstantValue { name, .. } => *name,
+        Attribute::Bootstrap { name, .. } => *name,
+        Attribute::Annotations { name, .. } => *name,
+        Attribute::Other { name, .. } => *name,
+    }
+}
+
+/// The attributes that were read so far, and whether the two known names are among theirs.
+#[derive(Drop)]
+pub(crate) struct Found {
+    pub(crate) list: Attributes,
+    own: bool,
+    annotations: bool,
+}
+
+impl Found {
+    ghost use Rattle.std.specs.Prelude.{◌≡◌, ◌++◌, ◌∷◌, [], bytes_eq, map, OnOk};
+    ghost use Rattle.class_model.specs.declared.constant_pool.Pool.{Pool};
+    ghost use Rattle.class_model.specs.Attributes.{Place, is_known, attribute_name};
+    ghost use Rattle.class_text.specs.Attributes.{is_first};
+    ghost use Rattle.class_read.specs.Stands.{place_of, Keeps};
+
+    pub(crate) fn new(alloc: Global) -> Found
+        ensures none { result.list ≡ [] }
+        ensures keeps { (pool : Pool) (place : Place) → Keeps pool place result }
+    {
+        Found {
+            list: Items::new(alloc),
+            own: false,
+            annotations: false,
+        }
+    }
+
+    /// Whether no attribute of a known name stands there yet.
+    pub(crate) fn is_first(&self, pool: &Pool, stand: Stand<'_>, text: &[u8]) -> bool
+        requires { Keeps pool.now (place_of stand) self.now }
+        ensures { result ≡ is_first (is_known (place_of stand.entry)) bytes_eq (map (attribute_name pool.now) self.now.list) text.now }
+    {
+        if text == own_name(stand) {
+            return !self.own;
+        }
+        if is_known(stand, text) {
+            return !self.annotations;
+        }
+        true
+    }
+
+    pub(crate) fn push(
+        &mut self,
+        pool: &Pool,
+        stand: Stand<'_>,
+        attribute: Attribute,
+    ) -> Result<(), AllocError>
+        requires { Keeps pool.now (place_of stand) self.old }
+        ensures list { OnOk result (self.new.list ≡ self.old.list ++ attribute ∷ []) }
+        ensures keeps { OnOk result (Keeps pool.now (place_of stand.entry) self.new) }
+    {
+        let text = text_of(pool, name_of(&attribute));
+        self.own = self.own || text == own_name(stand);
+        self.annotations = self.annotations || is_annotations(text);
+        self.list.push(attribute)
+    }
+}
