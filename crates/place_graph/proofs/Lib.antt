@@ -1,0 +1,5 @@
+pub mod Marks
+pub mod Searched
+pub mod Settled
+pub mod Stuck
+pub mod Walks

@@ -1,0 +1,10 @@
+//! Directed graphs over places, which are numbers from 0: what is beyond each place in a fixed order, or where paths
+//! return. It stands on no crate of `mill`. The layers above rest on `order_of`.
+#![tactic(auto)]
+
+mod above;
+mod order;
+mod reach;
+
+pub use above::Places;
+pub use order::{Order, order_of};
