@@ -1,0 +1,23 @@
+use Rattle.std.proofs.Common.{◌≡◌, ℕ, List, Option, Some, None, take, sym, ◌∙◌, ap, subst}
+use Rattle.std.specs.Option.{option_copied}
+use Rattle.std.specs.BTreeMap.{get}
+use Rattle.std.specs.Cmp.Lexicographic.{slice_cmp}
+use Rattle.std.specs.Ordering.{nat_cmp}
+use Rattle.class_index.specs.Least.{IsIn, IsLeast, least_from}
+use Rattle.class_index.specs.Supers.{missing_by}
+use Rattle.class_index.proofs.Leasts.{least_is, least_none}
+use Rattle.class_index.proofs.index.refuse_missing.Goals as goal
+
+pub returns-in_ok-copy_of-in-Some-clause-err : goal.returns-in_ok-copy_of-in-Some-clause-err
+returns-in_ok-copy_of-in-Some-clause-err c =
+    let find = get (slice_cmp nat_cmp) c.args.places.now in
+    let found = missing_by find c.args.own (take c.args.own c.args.all.now) in
+    let is : least_from None found ≡ Some c.in-Some.name.now =
+        sym (c.in-Some.ensures ∙ ap (λ xs. least_from None (missing_by find c.args.own xs)) c.split_at.ensures.front) in
+    subst (IsLeast (λ n. IsIn n found)) (sym c.in_ok-copy_of-in-Some.ensures) (least_is found c.in-Some.name.now is)
+
+pub returns-in-None-clause-ok : goal.returns-in-None-clause-ok
+returns-in-None-clause-ok c =
+    let find = get (slice_cmp nat_cmp) c.args.places.now in
+    least_none (missing_by find c.args.own (take c.args.own c.args.all.now))
+        (sym (c.in-None.ensures ∙ ap (λ xs. least_from None (missing_by find c.args.own xs)) c.split_at.ensures.front))

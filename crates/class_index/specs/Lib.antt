@@ -1,0 +1,9 @@
+pub mod Faults
+pub mod Hierarchy
+pub mod Indexed
+pub mod Least
+pub mod Members
+pub mod Outlines
+pub mod Places
+pub mod Subtyping
+pub mod Supers

@@ -1,0 +1,40 @@
+-- What of a class its hierarchy is made of.
+use Rattle.std.specs.Prelude.{ℕ, List, [], map, filter_map, Option, if◌then◌else◌}
+use Rattle.class_model.specs.declared.class_file.Class.{Class}
+use Rattle.class_model.specs.declared.class_file.Member.{Member}
+use Rattle.class_model.specs.declared.constant_pool.Pool.{Pool}
+use Rattle.class_model.specs.Constants.{class_at}
+use Rattle.class_model.specs.Shape.{class_name, name_text, descriptor_text}
+use Rattle.jvm_tables.specs.Externals.{External}
+use Rattle.class_index.specs.declared.outline.Outline.{Outline}
+use Rattle.class_index.specs.declared.outline.MemberOutline.{MemberOutline}
+
+abbrev pub member_outline : Pool → Member → MemberOutline
+member_outline pool m = record { name = name_text pool m; descriptor = descriptor_text pool m; flags = m.flags }
+
+abbrev pub outline : Class → Outline
+outline c =
+    record {
+      name = class_name c;
+      super_class = class_at c.pool c.super_class;
+      interfaces = filter_map (class_at c.pool) c.interfaces;
+      flags = c.flags;
+      fields = map (member_outline c.pool) c.fields;
+      methods = map (member_outline c.pool) c.methods;
+    }
+
+-- ACC_INTERFACE, JVMS 4.1
+abbrev pub interface_flag : ℕ
+interface_flag = 0x0200
+
+-- The members of an external class are natives, which stand in their own table.
+abbrev pub outer_outline : External → Outline
+outer_outline row =
+    record {
+      name = row.class;
+      super_class = row.super_class;
+      interfaces = row.interfaces;
+      flags = if row.is_interface then interface_flag else 0;
+      fields = [];
+      methods = [];
+    }

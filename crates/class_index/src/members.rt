@@ -1,0 +1,169 @@
+//! Fields and methods that classes declare.
+
+ghost use Rattle.std.specs.Prelude.{◌≡◌, ◌<◌, ◌^◌, length, option_map, slice_get, option_and_then};
+ghost use Rattle.class_model.specs.Shape.{has_flag};
+ghost use Rattle.std.specs.List.{All};
+ghost use Rattle.jvm_tables.specs.Externals.{externals, said, method_said};
+ghost use Rattle.jvm_tables.specs.Natives.{said as native_said};
+ghost use Rattle.class_index.specs.Members.{is_named, member_from, method_of, outer_method, native_method, abstract_method, declared, wanted_method, HasFewMembers, is_abstract_of};
+
+use crate::outline::{MemberOutline, Outline};
+use jvm_tables::{ExternalMethod, ExternalRow, NativeRow, external_at, native_row};
+
+/// A method that a class declares: its place in file order, or the row of a native; and what its flags say.
+#[derive(Clone, Copy, Debug, PartialEq, Eq, Drop)]
+pub struct Method {
+    pub at: u32,
+    pub is_private: bool,
+    pub is_static: bool,
+    pub is_abstract: bool,
+}
+
+/// Which methods are looked for.
+#[derive(Clone, Copy, Debug, PartialEq, Eq, Drop)]
+pub enum Wanted {
+    Any,
+    /// Neither private nor static.
+    Overriding,
+}
+
+fn is_named(member: &MemberOutline, name: &[u8], descriptor: &[u8]) -> bool
+    ensures { result ≡ is_named name.now descriptor.now member.now }
+{
+    member.name.as_slice() == name && member.descriptor.as_slice() == descriptor
+}
+
+/// The first member of a name and descriptor.
+pub(crate) fn member_in(
+    members: &[MemberOutline],
+    name: &[u8],
+    descriptor: &[u8],
+) -> Option<(usize, u16)>
+    ensures { result ≡ member_from 0 name.now descriptor.now members.now }
+{
+    for (at, member) in members.iter().enumerate() {
+        if is_named(member, name, descriptor) {
+            return Some((at, member.flags));
+        }
+    }
+    None
+}
+
+fn has_flag(flags: u16, flag: u16) -> bool
+    ensures { result ≡ has_flag flag flags }
+{
+    flags & flag != 0
+}
+
+#[tactic(auto, using(crate::proofs::Declared::member_within))]
+fn own_method(class: &Outline, name: &[u8], descriptor: &[u8]) -> Option<Method>
+    requires { HasFewMembers class.now }
+    ensures { result ≡ option_map method_of (member_from 0 name.now descriptor.now class.now.methods) }
+{
+    let (at, flags) = member_in(class.methods.as_slice(), name, descriptor)?;
+    Some(Method {
+        at: at as u32,
+        is_private: has_flag(flags, 0x0002),
+        is_static: has_flag(flags, 0x0008),
+        is_abstract: has_flag(flags, 0x0400),
+    })
+}
+
+fn native_method(row: &NativeRow) -> Method
+    ensures { result ≡ native_method (native_said row.now) }
+{
+    Method {
+        at: row.at,
+        is_private: false,
+        is_static: row.is_static,
+        is_abstract: false,
+    }
+}
+
+fn is_abstract_of(method: Option<ExternalMethod>, name: &[u8], descriptor: &[u8]) -> bool
+    ensures { result ≡ is_abstract_of name.now descriptor.now (option_map method_said method) }
+{
+    match method {
+        Some(method) => method.name.as_bytes() == name && method.descriptor.as_bytes() == descriptor,
+        None => false,
+    }
+}
+
+/// The number of the abstract method of an external interface, which is that after the last native.
+pub const ABSTRACT_AT: u32 = 118;
+
+fn outer_method(row: &ExternalRow, name: &[u8], descriptor: &[u8]) -> Option<Method>
+    ensures { result ≡ outer_method name.now descriptor.now (said row.now).1 }
+{
+    match native_row(row.class.as_bytes(), name, descriptor) {
+        Some(found) => Some(native_method(&found)),
+        None => {
+            if is_abstract_of(row.abstract_method, name, descriptor) {
+                Some(Method {
+                    at: ABSTRACT_AT,
+                    is_private: false,
+                    is_static: false,
+                    is_abstract: true,
+                })
+            } else {
+                None
+            }
+        }
+    }
+}
+
+fn method_of_row(row: u32, name: &[u8], descriptor: &[u8]) -> Option<Method>
+    ensures { result ≡ option_and_then (outer_method name.now descriptor.now) (slice_get externals row) }
+{
+    match external_at(row) {
+        Some(found) => outer_method(&found, name, descriptor),
+        None => None,
+    }
+}
+
+/// The method of a name and descriptor that the class at a place declares.
+pub(crate) fn declared(
+    own: usize,
+    all: &[Outline],
+    name: &[u8],
+    descriptor: &[u8],
+    place: usize,
+) -> Option<Method>
+    requires members { All HasFewMembers all.now }
+    requires place { place < length all.now }
+    requires few { length all.now < 2 ^ 32 }
+    ensures { result ≡ declared own all.now name.now descriptor.now place }
+{
+    if place < own {
+        own_method(&all[place], name, descriptor)
+    } else {
+        method_of_row((place - own) as u32, name, descriptor)
+    }
+}
+
+/// The same, where it is wanted.
+pub(crate) fn wanted_method(
+    own: usize,
+    all: &[Outline],
+    name: &[u8],
+    descriptor: &[u8],
+    wanted: Wanted,
+    place: usize,
+) -> Option<Method>
+    requires members { All HasFewMembers all.now }
+    requires place { place < length all.now }
+    requires few { length all.now < 2 ^ 32 }
+    ensures { result ≡ wanted_method own all.now name.now descriptor.now wanted place }
+{
+    let found = declared(own, all, name, descriptor, place)?;
+    match wanted {
+        Wanted::Any => Some(found),
+        Wanted::Overriding => {
+            if found.is_private || found.is_static {
+                None
+            } else {
+                Some(found)
+            }
+        }
+    }
+}

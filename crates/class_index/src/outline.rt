@@ -1,0 +1,165 @@
+//! What of a class its hierarchy is made of.
+
+ghost use Rattle.std.specs.Prelude.{◌≡◌, ℕ, [], IfOk, map, filter_map, unwrap_or, option_map};
+ghost use Rattle.class_model.specs.Constants.{text_at, class_at};
+ghost use Rattle.class_index.specs.Outlines.{member_outline, outline, outer_outline};
+ghost use Rattle.jvm_tables.specs.Externals.{said};
+
+use crate::lists::push_some;
+use class_model::{Class, Member, Name, Pool, Raw};
+use jvm_tables::ExternalRow;
+use sqlite_items::Items;
+use std::alloc::{AllocError, Global};
+
+/// A field or method by its texts.
+#[derive(Drop)]
+pub struct MemberOutline {
+    pub name: Raw,
+    pub descriptor: Raw,
+    pub flags: u16,
+}
+
+/// A class or interface by its texts: names have slashes.
+#[derive(Drop)]
+pub struct Outline {
+    pub name: Name,
+    pub super_class: Option<Name>,
+    pub interfaces: Items<Name>,
+    pub flags: u16,
+    /// In file order, as the methods.
+    pub fields: Items<MemberOutline>,
+    pub methods: Items<MemberOutline>,
+}
+
+/// A text that is a name. The names of shaped classes and of external classes are.
+fn name_of(alloc: Global, text: &[u8]) -> Result<Name, AllocError>
+    ensures { IfOk result (λ name. name ≡ text.now) }
+{
+    match Name::of(alloc, text) {
+        Ok(name) => Ok(name),
+        Err(_) => Err(AllocError),
+    }
+}
+
+fn text_of(pool: &Pool, number: u16) -> &[u8]
+    ensures { result.now ≡ unwrap_or (text_at pool.now number) [] }
+{
+    match pool.text(number) {
+        Some(text) => text,
+        None => &[],
+    }
+}
+
+fn member_outline_of(
+    alloc: Global,
+    pool: &Pool,
+    member: &Member,
+) -> Result<MemberOutline, AllocError>
+    ensures { IfOk result (λ found. found ≡ member_outline pool.now member.now) }
+{
+    let name = Items::from_slice(alloc, text_of(pool, member.name))?;
+    let descriptor = Items::from_slice(alloc, text_of(pool, member.descriptor))?;
+    Ok(MemberOutline {
+        name,
+        descriptor,
+        flags: member.flags,
+    })
+}
+
+fn member_outlines(
+    alloc: Global,
+    pool: &Pool,
+    members: &[Member],
+) -> Result<Items<MemberOutline>, AllocError>
+    ensures { IfOk result (λ found. found ≡ map (member_outline pool.now) members.now) }
+{
+    let mut outlines = Items::new(alloc);
+    for member in members {
+        outlines.push(member_outline_of(alloc, pool, member)?)?;
+    }
+    Ok(outlines)
+}
+
+fn class_name_of(
+    alloc: Global,
+    pool: &Pool,
+    number: u16,
+) -> Result<Option<Name>, AllocError>
+    ensures { IfOk result (λ found. found ≡ class_at pool.now number) }
+{
+    match pool.class_name(number) {
+        Some(text) => Ok(Some(name_of(alloc, text)?)),
+        None => Ok(None),
+    }
+}
+
+#[tactic(auto, using(crate::proofs::Pushes::class_more))]
+fn class_names(
+    alloc: Global,
+    pool: &Pool,
+    numbers: &[u16],
+) -> Result<Items<Name>, AllocError>
+    ensures { IfOk result (λ found. found ≡ filter_map (class_at pool.now) numbers.now) }
+{
+    let mut names = Items::new(alloc);
+    for number in numbers {
+        let name = class_name_of(alloc, pool, *number)?;
+        push_some(&mut names, name)?;
+    }
+    Ok(names)
+}
+
+pub(crate) fn outline_of(alloc: Global, class: &Class) -> Result<Outline, AllocError>
+    ensures { IfOk result (λ found. found ≡ outline class.now) }
+{
+    let name = name_of(alloc, class.name())?;
+    let super_class = class_name_of(alloc, &class.pool, class.super_class)?;
+    let interfaces = class_names(alloc, &class.pool, class.interfaces.as_slice())?;
+    let fields = member_outlines(alloc, &class.pool, class.fields.as_slice())?;
+    let methods = member_outlines(alloc, &class.pool, class.methods.as_slice())?;
+    Ok(Outline {
+        name,
+        super_class,
+        interfaces,
+        flags: class.flags,
+        fields,
+        methods,
+    })
+}
+
+fn given_names(alloc: Global, texts: &[&'static str]) -> Result<Items<Name>, AllocError>
+    ensures { IfOk result (λ found. found ≡ map (λ t. t.now) texts.now) }
+{
+    let mut names = Items::new(alloc);
+    for text in texts {
+        names.push(name_of(alloc, text.as_bytes())?)?;
+    }
+    Ok(names)
+}
+
+fn given_name(alloc: Global, text: Option<&'static str>) -> Result<Option<Name>, AllocError>
+    ensures { IfOk result (λ found. found ≡ option_map (λ t. t.now) text.entry) }
+{
+    match text {
+        Some(text) => Ok(Some(name_of(alloc, text.as_bytes())?)),
+        None => Ok(None),
+    }
+}
+
+/// The outline of an external class. Its members are natives and stand in their own table.
+pub(crate) fn outer_outline_of(alloc: Global, row: &ExternalRow) -> Result<Outline, AllocError>
+    ensures { IfOk result (λ found. found ≡ outer_outline (said row.now).1) }
+{
+    let name = name_of(alloc, row.class.as_bytes())?;
+    let super_class = given_name(alloc, row.super_class)?;
+    let interfaces = given_names(alloc, row.interfaces)?;
+    let flags = if row.is_interface { 0x0200 } else { 0 };
+    Ok(Outline {
+        name,
+        super_class,
+        interfaces,
+        flags,
+        fields: Items::new(alloc),
+        methods: Items::new(alloc),
+    })
+}
