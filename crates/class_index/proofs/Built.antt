@@ -1,15 +1,19 @@
 -- What was built is the index of the program's classes.
-use Rattle.std.proofs.Common.{◌≡◌, ℕ, ◌+◌, ◌<◌, ◌≤◌, ◌^◌, Bool, List, [], ◌++◌, length, map, take, Option, Some, refl, sym, ◌∙◌, ap, subst, arith, length-append}
-use Rattle.std.specs.List.{filter, filter_map}
+use Rattle.std.proofs.Common.{◌≡◌, ℕ, ◌+◌, ◌<◌, ◌≤◌, ◌^◌, Bool, List, [], ◌++◌, length, map, take, get_or, Option, Some, refl, sym, ◌∙◌, ap, subst, arith, length-append}
+use Rattle.std.specs.List.{All, filter, filter_map}
 use Rattle.std.proofs.lemmas.List.{length-take-le, take_at, length-map}
-use Rattle.std.proofs.lemmas.List.Elements.{filter_agree}
+use Rattle.std.proofs.lemmas.List.Elements.{filter_agree, All-append, All-map, All-weaker}
 use Rattle.jvm_tables.specs.Externals.{externals}
 use Rattle.place_graph.specs.Orders.{IsClosed}
 use Rattle.place_graph.specs.Searches.{AreReturning}
 use Rattle.class_index.specs.declared.outline.Outline.{Outline}
 use Rattle.class_index.specs.declared.fault.IndexFault.{IndexFault}
 use Rattle.class_index.specs.declared.fault.IndexFault.TheVariants.{MissingSuper, CyclicSuper, Memory}
-use Rattle.class_index.specs.Outlines.{outer_outline}
+use Rattle.class_model.specs.declared.class_file.Class.{Class}
+use Rattle.class_model.specs.Shape.{Shaped}
+use Rattle.jvm_tables.specs.Externals.{External}
+use Rattle.class_index.specs.Outlines.{outline, member_outline, outer_outline}
+use Rattle.class_index.specs.Members.{HasFewMembers}
 use Rattle.class_index.specs.Hierarchy.{all_of, names, place_of, super_by, directs_by, supers, hierarchy}
 use Rattle.class_index.specs.Places.{IsPlaces}
 use Rattle.class_index.specs.Indexed.{IsAll, IsIndex}
@@ -69,12 +73,32 @@ pub returning_is : (all : List Outline) (find : List ℕ → Option ℕ) (graph 
 returning_is all find graph marks places f are = subst (λ (g : List (List ℕ)). AreReturning g (length g) marks) (built_hierarchy all find graph places f) are
 
 -- the outlines of a program's classes and the external ones
-pub all_is : (classes all : List Outline) (own : ℕ) → own ≡ length classes → all ≡ all_of classes → (take own all ≡ classes) × IsAll own all
+pub all_is : (classes all : List Outline) (own : ℕ) → own ≡ length classes → all ≡ all_of classes → All HasFewMembers all → (take own all ≡ classes) × IsAll own all
 unfolding all_of
-all_is classes all own e f =
+all_is classes all own e f few =
     let front : take own all ≡ classes = ap (take own) f ∙ take_at classes (map outer_outline externals) own (sym e) in
-    let count : length all ≡ length classes + length (map outer_outline externals) = ap length f ∙ length-append classes (map outer_outline externals) in
-    (front, record {
-      within = omega (arith, count, e);
-      external = f ∙ ap (λ (xs : List Outline). xs ++ map outer_outline externals) (sym front);
-    })
+    let count : length all ≡ length classes + length (map outer_outline externals) = ap length f ∙ length-append classes (map outer_outline externals) in (
+      front,
+      record {
+        within = omega (arith, count, e);
+        external = f ∙ ap (λ (xs : List Outline). xs ++ map outer_outline externals) (sym front);
+        members = few;
+      },
+    )
+
+few_of_class : (c : Class) → Shaped c → HasFewMembers (outline c)
+few_of_class c shaped = record {
+  fields = rw (length-map c.fields (member_outline c.pool)) shaped.fields.each.0;
+  methods = rw (length-map c.methods (member_outline c.pool)) shaped.methods.each.0;
+}
+
+few_of_row : (row : External) → HasFewMembers (outer_outline row)
+few_of_row row = record { fields = omega arith; methods = omega arith }
+
+-- the members of shaped classes are few
+pub few_members : (classes : List Class) (all : List Outline) → All Shaped classes → all ≡ all_of (map outline classes) → All HasFewMembers all
+unfolding all_of
+few_members classes all shaped e =
+    rw e (All-append HasFewMembers (map outline classes) (map outer_outline externals)
+    (All-map HasFewMembers outline classes (All-weaker Shaped (λ c. HasFewMembers (outline c)) few_of_class classes shaped))
+    (All-map HasFewMembers outer_outline externals (λ k d h. few_of_row (get_or externals k d))))

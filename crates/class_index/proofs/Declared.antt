@@ -12,7 +12,7 @@ member_within from name descriptor [] at flags e = cc
 member_within from name descriptor (m ∷ members) at flags e = elim (cases_Bool (is_named name descriptor m)) [
   | inl t ↦
       let here : Some (at, flags) ≡ Some (from, m.flags) = e ∙ rw t refl in
-      let same : at ≡ from = ap (λ p. first p) here in
+      let same : at ≡ from = ap first here in
       omega (arith, same)
   | inr f ↦ omega (arith, member_within (from + 1) name descriptor members at flags (e ∙ rw f refl))
 ]

@@ -1,8 +1,11 @@
 pub mod Built
 pub mod Declared
 pub mod Leasts
+pub mod LookupLemmas
 pub mod Outers
+pub mod Parts
 pub mod PlaceLemmas
 pub mod Pushes
 pub mod Questions
 pub mod Returning
+pub mod Subtypes

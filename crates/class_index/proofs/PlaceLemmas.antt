@@ -77,7 +77,7 @@ place_within all x p e = omega (arith, position_within (bytes_eq x) 0 (names all
 directs_within : (all : List Outline) (o : Outline) → AreWithin (length all) (directs_by (place_of (names all)) o)
 directs_within all o =
     All-append (λ p. p < length all) (filter_map (place_of (names all)) o.interfaces) (option_to_list (super_by (place_of (names all)) o))
-        (filter_map_within (length all) (place_of (names all)) o.interfaces (place_within all)) (super_within (length all) (place_of (names all)) o.super_class (place_within all))
+    (filter_map_within (length all) (place_of (names all)) o.interfaces (place_within all)) (super_within (length all) (place_of (names all)) o.super_class (place_within all))
 
 rows_within : (n : ℕ) (f : Outline → List ℕ) (os : List Outline) → ((o : Outline) → AreWithin n (f o)) → All (AreWithin n) (map f os)
 rows_within n f [] h = All-nil (AreWithin n)
@@ -94,7 +94,7 @@ pub hierarchy_graph : (all : List Outline) → IsGraph (hierarchy all)
 hierarchy_graph all =
     let n : length (hierarchy all) ≡ length all = length-hierarchy all in
     let within : All (AreWithin (length all)) (hierarchy all) =
-        rw (hierarchy_is all) (rows_within (length all) (directs_by (place_of (names all))) all (directs_within all)) in
+    rw (hierarchy_is all) (rows_within (length all) (directs_by (place_of (names all))) all (directs_within all)) in
     subst (λ (m : ℕ). All (AreWithin m) (hierarchy all)) (sym n) within
 
 -- what was built by the map of places is the hierarchy

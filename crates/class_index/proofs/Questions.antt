@@ -48,14 +48,14 @@ subtype_by own all classes above low high l h row answer is e closed id f g diff
     there t =
         let r : Reaches (hierarchy all) l h = closed.only l h (sym listed ∙ t) in
         inr (subst (λ (graph : List (List ℕ)). Reaches graph (place classes low) (place classes high)) same
-            (subst (λ (p : ℕ). Reaches (hierarchy all) p (place classes high)) f (subst (λ (p : ℕ). Reaches (hierarchy all) l p) g r)))
+        (subst (λ (p : ℕ). Reaches (hierarchy all) p (place classes high)) f (subst (λ (p : ℕ). Reaches (hierarchy all) l p) g r)))
 
     back : IsSubtype classes low high → IsTrue answer
     back (inl s) = absurd (differ (f ∙ s ∙ sym g))
     back (inr r) =
         let q : Reaches (hierarchy all) l h =
-            subst (λ (p : ℕ). Reaches (hierarchy all) l p) (sym g) (subst (λ (p : ℕ). Reaches (hierarchy all) p (place classes high)) (sym f)
-                (subst (λ (graph : List (List ℕ)). Reaches graph (place classes low) (place classes high)) (sym same) r)) in
+        subst (λ (p : ℕ). Reaches (hierarchy all) l p) (sym g) (subst (λ (p : ℕ). Reaches (hierarchy all) p (place classes high)) (sym f)
+        (subst (λ (graph : List (List ℕ)). Reaches graph (place classes low) (place classes high)) (sym same) r)) in
         listed ∙ closed.reached l h q
 
 pub class_name_is : (own : ℕ) (all classes : List Outline) (class : ClassId) (at : ℕ) (o : Outline) → IsAll own all → take own all ≡ classes → at ≡ place classes class → at < length all

@@ -1,5 +1,6 @@
 -- What an index keeps of the classes of a program.
-use Rattle.std.specs.Prelude.{◌≡◌, ℕ, ◌≤◌, ◌<◌, ◌^◌, List, length, take, Option}
+use Rattle.std.specs.Prelude.{◌≡◌, ℕ, ◌≤◌, ◌<◌, ◌^◌, List, length, take, All, Option}
+use Rattle.class_index.specs.Members.{HasFewMembers}
 use Rattle.place_graph.specs.Orders.{IsClosed}
 use Rattle.class_index.specs.declared.outline.Outline.{Outline}
 use Rattle.class_index.specs.Hierarchy.{all_of, names, supers, hierarchy}
@@ -9,6 +10,7 @@ use Rattle.class_index.specs.Places.{IsPlaces}
 pub record IsAll (own : ℕ) (all : List Outline) : Type 0 where
   pub within : own ≤ length all
   pub external : all ≡ all_of (take own all)
+  pub members : All HasFewMembers all
 
 -- All classes, of which so many are the program's; the places of names; the superclass of each class; and what is above
 -- each class.

@@ -1,9 +1,12 @@
+pub mod Added
 pub mod Faults
 pub mod Hierarchy
 pub mod Indexed
 pub mod Least
+pub mod Lookups
 pub mod Members
 pub mod Outlines
 pub mod Places
+pub mod Resolution
 pub mod Subtyping
 pub mod Supers

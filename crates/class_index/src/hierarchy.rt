@@ -25,10 +25,7 @@ pub(crate) fn copy_of(name: &Name) -> Result<Name, AllocError>
 }
 
 /// The place of each name, the first one where classes share it.
-pub(crate) fn places_of(
-    alloc: Global,
-    all: &[Outline],
-) -> Result<BTreeMap<Name, usize>, AllocError>
+pub(crate) fn places_of(alloc: Global, all: &[Outline]) -> Result<BTreeMap<Name, usize>, AllocError>
     ensures { IfOk result (λ places. IsPlaces 0 (names all.now) (get (slice_cmp nat_cmp) places)) }
 {
     let mut places = BTreeMap::new(alloc);

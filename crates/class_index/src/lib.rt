@@ -1,15 +1,22 @@
-//! The hierarchy of a program's classes and the external ones.
+//! The hierarchy of a program's classes and the external ones, prepared for questions: names, resolution of fields and
+//! methods, subtyping. It stands on `class_model`, `jvm_tables` and `place_graph`. The layers above make an `Index` of
+//! a program once and ask it; its questions take no memory.
 #![tactic(auto)]
 
 mod fault;
 mod hierarchy;
 mod index;
+mod laws;
 mod lists;
+mod lookup;
 mod members;
 mod outline;
+mod resolve;
 mod subtype;
 
 pub use fault::IndexFault;
 pub use index::Index;
-pub use members::Method;
+pub use laws::{subtyping_is_reflexive, subtyping_is_transitive};
+pub use lookup::Found;
+pub use members::{ABSTRACT_AT, Method};
 pub use outline::{MemberOutline, Outline};

@@ -69,7 +69,7 @@ fn own_method(class: &Outline, name: &[u8], descriptor: &[u8]) -> Option<Method>
     })
 }
 
-fn native_method(row: &NativeRow) -> Method
+pub(crate) fn native_method(row: &NativeRow) -> Method
     ensures { result ≡ native_method (native_said row.now) }
 {
     Method {
@@ -84,7 +84,8 @@ fn is_abstract_of(method: Option<ExternalMethod>, name: &[u8], descriptor: &[u8]
     ensures { result ≡ is_abstract_of name.now descriptor.now (option_map method_said method) }
 {
     match method {
-        Some(method) => method.name.as_bytes() == name && method.descriptor.as_bytes() == descriptor,
+        Some(method) => method.name.as_bytes() == name
+            && method.descriptor.as_bytes() == descriptor,
         None => false,
     }
 }

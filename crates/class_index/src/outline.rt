@@ -80,11 +80,7 @@ fn member_outlines(
     Ok(outlines)
 }
 
-fn class_name_of(
-    alloc: Global,
-    pool: &Pool,
-    number: u16,
-) -> Result<Option<Name>, AllocError>
+fn class_name_of(alloc: Global, pool: &Pool, number: u16) -> Result<Option<Name>, AllocError>
     ensures { IfOk result (λ found. found ≡ class_at pool.now number) }
 {
     match pool.class_name(number) {
@@ -94,11 +90,7 @@ fn class_name_of(
 }
 
 #[tactic(auto, using(crate::proofs::Pushes::class_more))]
-fn class_names(
-    alloc: Global,
-    pool: &Pool,
-    numbers: &[u16],
-) -> Result<Items<Name>, AllocError>
+fn class_names(alloc: Global, pool: &Pool, numbers: &[u16]) -> Result<Items<Name>, AllocError>
     ensures { IfOk result (λ found. found ≡ filter_map (class_at pool.now) numbers.now) }
 {
     let mut names = Items::new(alloc);

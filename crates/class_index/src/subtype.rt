@@ -7,7 +7,7 @@ use crate::index::Index;
 use class_model::ClassId;
 use jvm_tables::external_at;
 
-fn contains(places: &[usize], place: usize) -> bool
+pub(crate) fn contains(places: &[usize], place: usize) -> bool
     ensures { result ≡ is_among place places.now }
 {
     for other in places {

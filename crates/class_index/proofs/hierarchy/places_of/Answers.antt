@@ -17,8 +17,9 @@ loop-at-preserved c =
     let here : at < length all = omega arith in
     let within : at < length (names all) = omega (arith, here, length-map all (λ (o : Outline). o.name)) in
     let name : c.in_ok-copy_of.field-0 ≡ get_or (names all) at [] =
-        c.in_ok-copy_of.ensures ∙ sym (get_or-map (λ (o : Outline). o.name) all at c.index-all-at.result [] here) in
+    c.in_ok-copy_of.ensures ∙ sym (get_or-map (λ (o : Outline). o.name) all at c.index-all-at.result [] here) in
     let before : IsPlaces (at + 1) (drop (at + 1) (names all)) (get (slice_cmp nat_cmp) c.loop-at.places) =
-        subst (λ (n : ℕ). IsPlaces n (drop n (names all)) (get (slice_cmp nat_cmp) c.loop-at.places)) (sym next) c.loop-at.invariant.1 in
-    (omega arith,
-     places_more (names all) at c.in_ok-copy_of.field-0 (get (slice_cmp nat_cmp) c.loop-at.places) (get (slice_cmp nat_cmp) c.insert.new.self) within name c.in_ok-insert.ensures.updates.0 before)
+    subst (λ (n : ℕ). IsPlaces n (drop n (names all)) (get (slice_cmp nat_cmp) c.loop-at.places)) (sym next) c.loop-at.invariant.1 in (
+      omega arith,
+      places_more (names all) at c.in_ok-copy_of.field-0 (get (slice_cmp nat_cmp) c.loop-at.places) (get (slice_cmp nat_cmp) c.insert.new.self) within name c.in_ok-insert.ensures.updates.0 before,
+    )

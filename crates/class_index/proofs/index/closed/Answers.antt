@@ -27,7 +27,7 @@ invariant_of-result c =
     let supers : c.in_ok-supers.supers ≡ map (super_by find) c.args.all = c.in_ok-supers.ensures ∙ ap (map (super_by find)) c.as_slice.ensures in
     let done : IsClosed c.as_slice-3.result.now c.in-Above.above = rw c.in-Above.is at c.in_ok-above.ensures in
     index_is c.args.own c.args.all find c.in_ok-supers.supers c.in_ok-graph.graph c.in-Above.above c.requires.all c.requires.few c.requires.places supers graph
-        (subst (λ (g : List (List ℕ)). IsClosed g c.in-Above.above) c.as_slice-3.ensures done)
+    (subst (λ (g : List (List ℕ)). IsClosed g c.in-Above.above) c.as_slice-3.ensures done)
 
 pub returns-in-Above-clause-whole : goal.returns-in-Above-clause-whole
 returns-in-Above-clause-whole c =
@@ -35,7 +35,7 @@ returns-in-Above-clause-whole c =
     let graph : c.in_ok-graph.graph ≡ map (directs_by find) c.args.all = c.in_ok-graph.ensures ∙ ap (map (directs_by find)) c.as_slice-2.ensures in
     let done : IsClosed c.as_slice-3.result.now c.in-Above.above = rw c.in-Above.is at c.in_ok-above.ensures in
     whole c.args.own c.args.all find c.in_ok-graph.graph c.in-Above.above c.requires.all c.requires.places c.requires.supers graph
-        (subst (λ (g : List (List ℕ)). IsClosed g c.in-Above.above) c.as_slice-3.ensures done)
+    (subst (λ (g : List (List ℕ)). IsClosed g c.in-Above.above) c.as_slice-3.ensures done)
 
 pub returning_name-requires-clause-marks : goal.returning_name-requires-clause-marks
 returning_name-requires-clause-marks c =
@@ -43,16 +43,16 @@ returning_name-requires-clause-marks c =
     let graph : c.in_ok-graph.graph ≡ map (directs_by find) c.args.all = c.in_ok-graph.ensures ∙ ap (map (directs_by find)) c.as_slice-2.ensures in
     let told = rw c.in-Returning.is at c.in_ok-above.ensures in
     let are : AreReturning c.in_ok-graph.graph (length c.in_ok-graph.graph) c.in-Returning.marks.items =
-        subst (λ (g : List (List ℕ)). AreReturning g (length g) c.in-Returning.marks.items) c.as_slice-3.ensures told.0 in
+    subst (λ (g : List (List ℕ)). AreReturning g (length g) c.in-Returning.marks.items) c.as_slice-3.ensures told.0 in
     let of_all : AreReturning (hierarchy c.args.all) (length (hierarchy c.args.all)) c.in-Returning.marks.items =
-        returning_is c.args.all find c.in_ok-graph.graph c.in-Returning.marks.items c.requires.places graph are in
+    returning_is c.args.all find c.in_ok-graph.graph c.in-Returning.marks.items c.requires.places graph are in
     let here : AreReturning (hierarchy c.args.all) (length (hierarchy c.args.all)) c.as_slice-in-Returning-2.result.now =
-        subst (λ (m : List Bool). AreReturning (hierarchy c.args.all) (length (hierarchy c.args.all)) m) (sym c.as_slice-in-Returning-2.ensures.value) of_all in
+    subst (λ (m : List Bool). AreReturning (hierarchy c.args.all) (length (hierarchy c.args.all)) m) (sym c.as_slice-in-Returning-2.ensures.value) of_all in
     subst (λ (xs : List Outline). AreReturning (hierarchy xs) (length (hierarchy xs)) c.as_slice-in-Returning-2.result.now) (sym c.as_slice-in-Returning.ensures) here
 
 pub returns-in_ok-name-in-Returning-clause-fault : goal.returns-in_ok-name-in-Returning-clause-fault
 returns-in_ok-name-in-Returning-clause-fault c =
     let find = get (slice_cmp nat_cmp) c.args.places in
     let least : IsLeast (Returns c.args.all) c.in_ok-name-in-Returning.name =
-        subst (λ (xs : List Outline). IsLeast (Returns xs) c.in_ok-name-in-Returning.name) c.as_slice-in-Returning.ensures c.in_ok-name-in-Returning.ensures in
+    subst (λ (xs : List Outline). IsLeast (Returns xs) c.in_ok-name-in-Returning.name) c.as_slice-in-Returning.ensures c.in_ok-name-in-Returning.ensures in
     cyclic_fault c.args.own c.args.all find c.in_ok-name-in-Returning.name c.requires.all c.requires.places c.requires.supers least

@@ -15,5 +15,5 @@ returns-in-Err-clause-fault c =
     let find = get (slice_cmp nat_cmp) c.in_ok-places.places in
     let places : IsPlaces 0 (names c.args.all) find = subst (λ (xs : List Outline). IsPlaces 0 (names xs) find) c.as_slice.ensures c.in_ok-places.ensures in
     let fault : IsMissingFault (missing_by find c.args.own (take c.args.own c.args.all)) c.in-Err.fault =
-        subst (λ (xs : List Outline). IsMissingFault (missing_by find c.args.own (take c.args.own xs)) c.in-Err.fault) c.as_slice-2.ensures c.in-Err.ensures.err in
+    subst (λ (xs : List Outline). IsMissingFault (missing_by find c.args.own (take c.args.own xs)) c.in-Err.fault) c.as_slice-2.ensures c.in-Err.ensures.err in
     missing_fault c.args.own c.args.all find c.in-Err.fault c.requires.all places fault

@@ -13,11 +13,11 @@ returns-in_ok-copy_of-in-Some-clause-err c =
     let find = get (slice_cmp nat_cmp) c.args.places.now in
     let found = missing_by find c.args.own (take c.args.own c.args.all.now) in
     let is : least_from None found ≡ Some c.in-Some.name.now =
-        sym (c.in-Some.ensures ∙ ap (λ xs. least_from None (missing_by find c.args.own xs)) c.split_at.ensures.front) in
+    sym (c.in-Some.ensures ∙ ap (λ xs. least_from None (missing_by find c.args.own xs)) c.split_at.ensures.front) in
     subst (IsLeast (λ n. IsIn n found)) (sym c.in_ok-copy_of-in-Some.ensures) (least_is found c.in-Some.name.now is)
 
 pub returns-in-None-clause-ok : goal.returns-in-None-clause-ok
 returns-in-None-clause-ok c =
     let find = get (slice_cmp nat_cmp) c.args.places.now in
     least_none (missing_by find c.args.own (take c.args.own c.args.all.now))
-        (sym (c.in-None.ensures ∙ ap (λ xs. least_from None (missing_by find c.args.own xs)) c.split_at.ensures.front))
+    (sym (c.in-None.ensures ∙ ap (λ xs. least_from None (missing_by find c.args.own xs)) c.split_at.ensures.front))

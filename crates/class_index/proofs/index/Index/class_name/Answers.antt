@@ -10,8 +10,8 @@ bounds-as_slice-place c =
 pub returns : goal.returns
 returns c =
     let within : c.place-place.result < length c.self.inside.all =
-        place_within c.self.inside.own c.self.inside.all c.args.self.now c.args.class c.place-place.result c.self.invariant.classes c.self.view_is c.requires c.place-place.ensures in
+    place_within c.self.inside.own c.self.inside.all c.args.self.now c.args.class c.place-place.result c.self.invariant.classes c.self.view_is c.requires c.place-place.ensures in
     let read : c.index-as_slice-place.result ≡ get_or c.self.inside.all c.place-place.result c.index-as_slice-place.result =
-        c.index-as_slice-place.is ∙ ap (λ (xs : List Outline). get_or xs c.place-place.result c.index-as_slice-place.result) c.as_slice.ensures in
+    c.index-as_slice-place.is ∙ ap (λ (xs : List Outline). get_or xs c.place-place.result c.index-as_slice-place.result) c.as_slice.ensures in
     c.as_slice-2.ensures.value ∙ sym (ap (λ (o : Outline). o.name) c.index-as_slice-place.is)
     ∙ class_name_is c.self.inside.own c.self.inside.all c.args.self.now c.args.class c.place-place.result c.index-as_slice-place.result c.self.invariant.classes c.self.view_is c.place-place.ensures within read

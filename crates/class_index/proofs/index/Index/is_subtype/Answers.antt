@@ -12,7 +12,7 @@ bounds-above-low c =
 pub returns : goal.returns
 returns c =
     let read : c.index-above-low.result ≡ get_or c.self.inside.above c.place-low.result c.index-above-low.result =
-        c.index-above-low.is ∙ ap (λ (xs : List (List ℕ)). get_or xs c.place-low.result c.index-above-low.result) c.as_slice-above.ensures in
+    c.index-above-low.is ∙ ap (λ (xs : List (List ℕ)). get_or xs c.place-low.result c.index-above-low.result) c.as_slice-above.ensures in
     subtype_by c.self.inside.own c.self.inside.all c.args.self.now c.self.inside.above c.args.low c.args.high c.place-low.result c.place-high.result c.index-above-low.result c.contains.result
-        c.self.invariant.classes c.self.view_is c.self.invariant.closed c.requires.low c.place-low.ensures c.place-high.ensures c.if-low-high.false read
-        (c.contains.ensures ∙ ap (is_among c.place-high.result) c.as_slice.ensures)
+    c.self.invariant.classes c.self.view_is c.self.invariant.closed c.requires.low c.place-low.ensures c.place-high.ensures c.if-low-high.false read
+    (c.contains.ensures ∙ ap (is_among c.place-high.result) c.as_slice.ensures)

@@ -1,0 +1,16 @@
+use Rattle.std.proofs.Common.{◌≡◌, ℕ, ◌+◌, List, length, Option, Some, None, option_map, sym, ◌∙◌, ap, arith}
+use Rattle.jvm_tables.specs.Externals.{External, externals}
+use Rattle.class_index.specs.Hierarchy.{all_of}
+use Rattle.class_index.proofs.Outers.{count}
+use Rattle.class_index.proofs.Questions.{length-all_of}
+use Rattle.class_index.proofs.Parts.{object_row, object_there}
+use Rattle.class_index.proofs.index.Index.owner_place.Goals as goal
+
+pub returns-in-Some-clause-within : goal.returns-in-Some-clause-within
+returns-in-Some-clause-within c =
+    let found : Some c.in-Some.row.at ≡ Some 31 = ap (option_map (λ (row : ℕ × External). row.0)) c.in-Some.ensures ∙ object_row in
+    let at : c.in-Some.row.at ≡ 31 = cc in
+    omega (arith, at, c.own.ensures.value, length-all_of c.args.self.now, count)
+
+pub returns-in-None-clause-value : goal.returns-in-None-clause-value
+returns-in-None-clause-value c = absurd (object_there c.in-None.ensures)

@@ -1,0 +1,16 @@
+use Rattle.std.proofs.Common.{◌≡◌, ℕ, List, [], sym, ◌∙◌, ap, arith}
+use Rattle.std.proofs.lemmas.List.{get_or_read}
+use Rattle.place_graph.specs.Graphs.{edges_of}
+use Rattle.class_index.proofs.LookupLemmas.{resolved_nearest, resolved_above}
+use Rattle.class_index.proofs.lookup.resolved.Goals as goal
+
+pub returns-in-Some : goal.returns-in-Some
+returns-in-Some c =
+    resolved_nearest c.args.own c.args.all.now c.args.supers.now (edges_of c.args.above.now) c.args.name.now c.args.descriptor.now c.args.place c.in-Some.found c.in-Some.ensures
+
+pub returns-in-None : goal.returns-in-None
+returns-in-None c =
+    let row : c.as_slice.result.now ≡ edges_of c.args.above.now c.args.place =
+    c.as_slice.ensures ∙ get_or_read c.args.above.now c.args.place c.index-above-place.result (omega (arith, c.requires.place, c.requires.rows)) c.index-above-place.is [] in
+    resolved_above c.args.own c.args.all.now c.args.supers.now (edges_of c.args.above.now) c.args.name.now c.args.descriptor.now c.args.place c.as_slice.result.now c.in_superinterfaces.result
+    c.in-None.ensures row c.in_superinterfaces.ensures
