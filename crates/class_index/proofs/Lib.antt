@@ -9,3 +9,4 @@ pub mod Pushes
 pub mod Questions
 pub mod Returning
 pub mod Subtypes
+pub mod TestPrograms

@@ -48,7 +48,7 @@ fn add_row(alloc: Global, all: &mut Items<Outline>, row: u32) -> Result<(), Allo
     }
 }
 
-fn add_external(alloc: Global, all: &mut Items<Outline>) -> Result<(), AllocError>
+pub(crate) fn add_external(alloc: Global, all: &mut Items<Outline>) -> Result<(), AllocError>
     ensures { OnOk result (all.new ≡ all_of all.old) }
 {
     for row in 0..61 {
@@ -147,7 +147,7 @@ fn closed(
     }
 }
 
-fn indexed(alloc: Global, own: usize, all: Items<Outline>) -> Result<Index, IndexFault>
+pub(crate) fn indexed(alloc: Global, own: usize, all: Items<Outline>) -> Result<Index, IndexFault>
     requires all { IsAll own all }
     requires few { length all < 2 ^ 32 }
     ensures ok { IfOk result (λ index. index ≡ take own all) }

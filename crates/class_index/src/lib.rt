@@ -20,3 +20,6 @@ pub use laws::{subtyping_is_reflexive, subtyping_is_transitive};
 pub use lookup::Found;
 pub use members::{ABSTRACT_AT, Method};
 pub use outline::{MemberOutline, Outline};
+
+#[cfg(test)]
+mod tests;
