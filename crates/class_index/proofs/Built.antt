@@ -1,6 +1,6 @@
 -- What was built is the index of the program's classes.
-use Rattle.std.proofs.Common.{◌≡◌, ℕ, ◌+◌, ◌<◌, ◌≤◌, ◌^◌, Bool, List, [], ◌++◌, length, map, take, get_or, Option, Some, refl, sym, ◌∙◌, ap, subst, arith, length-append}
-use Rattle.std.specs.List.{All, filter, filter_map}
+use Rattle.std.proofs.Common.{◌≡◌, ℕ, ◌+◌, ◌<◌, ◌^◌, Bool, List, [], ◌++◌, length, map, take, get_or, Option, refl, sym, ◌∙◌, ap, subst, arith, length-append}
+use Rattle.std.specs.List.{All, filter_map}
 use Rattle.std.proofs.lemmas.List.{length-take-le, take_at, length-map}
 use Rattle.std.proofs.lemmas.List.Elements.{filter_agree, All-append, All-map, All-weaker}
 use Rattle.jvm_tables.specs.Externals.{externals}
@@ -14,7 +14,7 @@ use Rattle.class_model.specs.Shape.{Shaped}
 use Rattle.jvm_tables.specs.Externals.{External}
 use Rattle.class_index.specs.Outlines.{outline, member_outline, outer_outline}
 use Rattle.class_index.specs.Members.{HasFewMembers}
-use Rattle.class_index.specs.Hierarchy.{all_of, names, place_of, super_by, directs_by, supers, hierarchy}
+use Rattle.class_index.specs.Hierarchy.{all_of, names, place_of, super_by, directs_by, hierarchy}
 use Rattle.class_index.specs.Places.{IsPlaces}
 use Rattle.class_index.specs.Indexed.{IsAll, IsIndex}
 use Rattle.class_index.specs.Least.{IsIn, IsLeast}

@@ -1,12 +1,11 @@
 -- Looking for members.
-use Rattle.std.proofs.Common.{◌≡◌, ℕ, zero, suc, ◌+◌, ◌<◌, ◌⊎◌, Bool, true, false, List, [], ◌∷◌, ◌++◌, length, take, get_or, Option, Some, None, option_and_then, refl, sym, ◌∙◌, ap, subst, arith, inl, inr}
-use Rattle.std.specs.List.{All, filter_map}
+use Rattle.std.proofs.Common.{◌≡◌, ℕ, zero, suc, ◌+◌, ◌<◌, List, [], ◌∷◌, ◌++◌, length, take, get_or, Option, Some, None, refl, sym, ap, subst, arith}
+use Rattle.std.specs.List.{filter_map}
 use Rattle.std.specs.Option.{option_to_list, IfSome}
 use Rattle.std.proofs.lemmas.List.Elements.{All-get_or}
 use Rattle.class_index.specs.declared.members.Method.{Method}
 use Rattle.class_index.specs.declared.lookup.Found.{Found}
 use Rattle.class_index.specs.declared.lookup.Choice.{Choice}
-use Rattle.class_index.specs.declared.lookup.Choice.TheVariants.{Nothing, One, Many}
 use Rattle.class_index.specs.Lookups.{found_at, super_at, nearest, choice_of, AreSupers, resolved, in_interface, most_specific, first_in, the_one}
 use Rattle.class_index.specs.declared.outline.Outline.{Outline}
 use Rattle.class_index.specs.declared.members.Wanted.TheVariants.{Any}

@@ -1,5 +1,5 @@
 -- The parts of an index, as its questions see them.
-use Rattle.std.proofs.Common.{◌≡◌, ℕ, zero, suc, ◌+◌, ◌<◌, ◌≤◌, ◌⊎◌, inl, inr, Bool, true, false, List, [], ◌∷◌, length, map, take, get_or, Option, Some, None, option_map, option_and_then, refl, sym, ◌∙◌, ap, subst, arith}
+use Rattle.std.proofs.Common.{◌≡◌, ℕ, ◌<◌, ◌≤◌, ◌⊎◌, inl, inr, true, List, [], ◌∷◌, length, map, get_or, Option, Some, None, option_map, option_and_then, refl, sym, ◌∙◌, ap, subst, arith}
 use Rattle.std.proofs.Math.Path.{fun_ext}
 use Rattle.std.specs.List.{All, flat_map}
 use Rattle.std.specs.Option.{IfSome}
@@ -14,7 +14,7 @@ use Rattle.place_graph.proofs.Marks.{among_at}
 use Rattle.place_graph.proofs.Settled.{edges_within}
 use Rattle.place_graph.proofs.Searched.{among_within}
 use Rattle.class_index.specs.declared.outline.Outline.{Outline}
-use Rattle.class_index.specs.Hierarchy.{all_of, names, place_of, super_by, supers, hierarchy}
+use Rattle.class_index.specs.Hierarchy.{names, place_of, super_by, supers, hierarchy}
 use Rattle.class_index.specs.Lookups.{AreSupers}
 use Rattle.class_index.proofs.PlaceLemmas.{hierarchy_graph, length-hierarchy, place_within}
 

@@ -1,11 +1,11 @@
 -- Answers that an index gives.
-use Rattle.std.proofs.Common.{◌≡◌, ℕ, ◌+◌, ◌<◌, ◌≤◌, ◌⊎◌, ◌↔◌, Bool, true, List, [], ◌++◌, length, map, take, get_or, Option, Some, slice_get, unwrap_or, IsTrue, refl, sym, ◌∙◌, ap, subst, inl, inr, arith, length-append}
-use Rattle.std.proofs.lemmas.List.{length-take-le, length-map, get_or-map, get_or_read}
+use Rattle.std.proofs.Common.{◌≡◌, ℕ, ◌+◌, ◌<◌, ◌↔◌, Bool, List, [], length, map, take, get_or, slice_get, unwrap_or, IsTrue, sym, ◌∙◌, ap, subst, inl, inr, arith, length-append}
+use Rattle.std.proofs.lemmas.List.{length-map, get_or-map, get_or_read}
 use Rattle.std.proofs.lemmas.Option.{unwrap_or-slice_get}
 use Rattle.class_model.specs.declared.identifiers.ClassId.{ClassId}
 use Rattle.class_model.specs.declared.identifiers.ClassId.TheVariants.{Own, Outer}
 use Rattle.jvm_tables.specs.Externals.{externals}
-use Rattle.place_graph.specs.Graphs.{is_among, Reaches, beyond, edges_of}
+use Rattle.place_graph.specs.Graphs.{is_among, Reaches, beyond}
 use Rattle.place_graph.specs.Orders.{IsClosed}
 use Rattle.class_index.specs.declared.outline.Outline.{Outline}
 use Rattle.class_index.specs.Outlines.{outer_outline}

@@ -1,5 +1,5 @@
 -- The least name to which a chain returns.
-use Rattle.std.proofs.Common.{◌≡◌, ℕ, ◌<◌, Bool, true, List, [], length, Option, Some, None, IsSome, slice_get, get_or, Bor, refl, sym, ◌∙◌, ap, subst, arith}
+use Rattle.std.proofs.Common.{◌≡◌, ℕ, ◌<◌, Bool, true, List, [], length, Option, Some, None, IsSome, slice_get, get_or, Bor, refl, sym, subst, arith}
 use Rattle.std.specs.Option.{option_copied}
 use Rattle.place_graph.proofs.Searched.{marked_within}
 use Rattle.std.proofs.lemmas.Option.{slice_get_within, slice_get-get_or}

@@ -1,5 +1,5 @@
 -- Subtypes of subtypes.
-use Rattle.std.proofs.Common.{◌≡◌, ℕ, ◌⊎◌, List, sym, ◌∙◌, subst, inl, inr}
+use Rattle.std.proofs.Common.{ℕ, List, sym, ◌∙◌, subst, inl, inr}
 use Rattle.class_model.specs.declared.identifiers.ClassId.{ClassId}
 use Rattle.place_graph.specs.Graphs.{Reaches}
 use Rattle.place_graph.proofs.Searched.{reaches_on}

@@ -1,12 +1,11 @@
 -- The hierarchy of classes: those of a program, in its order, then the external ones, in the order of their table. A
 -- class is told by its place among all of them.
-use Rattle.std.specs.Prelude.{◌≡◌, ℕ, ◌+◌, ◌-◌, ◌<◌, nat_lt, Bool, true, false, not, List, ◌++◌, length, map, filter_map, slice_get, bytes_eq, Option, Some, None, option_and_then, if◌then◌else◌}
+use Rattle.std.specs.Prelude.{ℕ, ◌+◌, ◌-◌, ◌<◌, nat_lt, List, ◌++◌, length, map, filter_map, bytes_eq, Option, option_and_then, if◌then◌else◌}
 use Rattle.std.specs.Option.{option_to_list}
 use Rattle.std.specs.List.{position_from}
 use Rattle.class_model.specs.declared.identifiers.ClassId.{ClassId}
 use Rattle.class_model.specs.declared.identifiers.ClassId.TheVariants.{Own, Outer}
-use Rattle.jvm_tables.specs.Externals.{External, externals}
-use Rattle.place_graph.specs.Graphs.{Reaches, beyond}
+use Rattle.jvm_tables.specs.Externals.{externals}
 use Rattle.class_index.specs.declared.outline.Outline.{Outline}
 use Rattle.class_index.specs.Outlines.{outer_outline}
 

@@ -1,5 +1,5 @@
 -- Looking for members in a class and above it (JVMS 5.4.3).
-use Rattle.std.specs.Prelude.{◌≡◌, ℕ, zero, suc, ◌<◌, Bool, true, false, not, ◌&&◌, ◌||◌, List, [], ◌∷◌, length, filter_map, slice_get, slice_index_or, Option, Some, None, is_some, option_map, option_and_then, unwrap_or, All, IfSome, if◌then◌else◌}
+use Rattle.std.specs.Prelude.{ℕ, zero, suc, ◌<◌, Bool, false, ◌&&◌, ◌||◌, List, [], ◌∷◌, length, filter_map, slice_get, slice_index_or, Option, Some, None, is_some, option_map, option_and_then, unwrap_or, All, IfSome, if◌then◌else◌}
 use Rattle.class_model.specs.Shape.{has_flag}
 use Rattle.place_graph.specs.Graphs.{is_among}
 use Rattle.class_index.specs.declared.outline.Outline.{Outline}

@@ -1,9 +1,9 @@
 -- Fields and methods that classes declare.
-use Rattle.std.specs.Prelude.{◌≡◌, ℕ, ◌+◌, ◌-◌, ◌^◌, ◌<◌, nat_lt, Bool, true, false, ◌&&◌, ◌||◌, List, [], ◌∷◌, length, bytes_eq, slice_get, Option, Some, None, option_map, option_and_then, if◌then◌else◌}
+use Rattle.std.specs.Prelude.{ℕ, ◌+◌, ◌-◌, ◌^◌, ◌<◌, nat_lt, Bool, true, false, ◌&&◌, ◌||◌, List, [], ◌∷◌, length, bytes_eq, slice_get, Option, Some, None, option_map, option_and_then, if◌then◌else◌}
 use Rattle.class_model.specs.Shape.{has_flag, is_static, is_abstract}
 use Rattle.jvm_tables.specs.Externals.{External, externals}
 use Rattle.jvm_tables.specs.Externals as external
-use Rattle.jvm_tables.specs.Natives.{Native, native_of, natives}
+use Rattle.jvm_tables.specs.Natives.{Native, native_of}
 use Rattle.class_index.specs.declared.outline.Outline.{Outline}
 use Rattle.class_index.specs.declared.outline.MemberOutline.{MemberOutline}
 use Rattle.class_index.specs.declared.members.Method.{Method}

@@ -1,5 +1,5 @@
 -- What of a class its hierarchy is made of.
-use Rattle.std.specs.Prelude.{ℕ, List, [], map, filter_map, Option, if◌then◌else◌}
+use Rattle.std.specs.Prelude.{ℕ, [], map, filter_map, if◌then◌else◌}
 use Rattle.class_model.specs.declared.class_file.Class.{Class}
 use Rattle.class_model.specs.declared.class_file.Member.{Member}
 use Rattle.class_model.specs.declared.constant_pool.Pool.{Pool}

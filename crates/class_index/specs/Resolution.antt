@@ -1,15 +1,10 @@
 -- Resolution and selection (JVMS 5.4.3 and 5.4.6).
-use Rattle.std.specs.Prelude.{◌≡◌, ℕ, ◌+◌, ◌==◌, Bool, true, false, ◌&&◌, List, [], ◌∷◌, length, codes, slice_get, Option, Some, None, option_map, option_and_then, if◌then◌else◌}
-use Rattle.class_model.specs.declared.identifiers.ClassId.{ClassId}
-use Rattle.class_model.specs.declared.identifiers.ClassId.TheVariants.{Own, Outer}
+use Rattle.std.specs.Prelude.{ℕ, ◌+◌, Bool, true, false, List, ◌∷◌, length, codes, Option, None, option_map, option_and_then, if◌then◌else◌}
 use Rattle.class_model.specs.declared.identifiers.MemberId.{MemberId}
-use Rattle.jvm_tables.specs.Externals.{External, externals, external_of}
-use Rattle.jvm_tables.specs.Externals as external
-use Rattle.jvm_tables.specs.Natives.{Native, natives, native_of, is_array}
+use Rattle.jvm_tables.specs.Externals.{external_of}
+use Rattle.jvm_tables.specs.Natives.{Native, native_of, is_array}
 use Rattle.place_graph.specs.Graphs.{beyond}
 use Rattle.class_index.specs.declared.outline.Outline.{Outline}
-use Rattle.class_index.specs.declared.outline.MemberOutline.{MemberOutline}
-use Rattle.class_index.specs.declared.members.Method.{Method}
 use Rattle.class_index.specs.declared.lookup.Found.{Found}
 use Rattle.class_index.specs.Hierarchy.{all_of, names, place_of, supers, hierarchy, id_of}
 use Rattle.class_index.specs.Members.{native_method}

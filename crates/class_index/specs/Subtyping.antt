@@ -1,5 +1,5 @@
 -- Names of classes, and subtyping.
-use Rattle.std.specs.Prelude.{◌≡◌, ℕ, ◌⊎◌, List, [], Option, option_map, slice_get, unwrap_or}
+use Rattle.std.specs.Prelude.{◌≡◌, ℕ, ◌⊎◌, List, [], slice_get, unwrap_or}
 use Rattle.class_model.specs.declared.identifiers.ClassId.{ClassId}
 use Rattle.place_graph.specs.Graphs.{Reaches}
 use Rattle.class_index.specs.declared.outline.Outline.{Outline}

@@ -1,4 +1,4 @@
-use Rattle.std.proofs.Common.{◌≡◌, ℕ, List, ◌++◌, take, Option, sym, ◌∙◌, ap, arith}
+use Rattle.std.proofs.Common.{◌++◌, take, sym, ◌∙◌, ap, arith}
 use Rattle.std.specs.Option.{option_to_list}
 use Rattle.std.specs.List.{filter_map}
 use Rattle.std.specs.BTreeMap.{get}

@@ -1,4 +1,4 @@
-use Rattle.std.proofs.Common.{◌≡◌, ◌++◌, List, map, take, option_map, slice_get, sym, ◌∙◌, ap, append_assoc, arith}
+use Rattle.std.proofs.Common.{◌++◌, map, take, option_map, slice_get, sym, ◌∙◌, ap, append_assoc, arith}
 use Rattle.std.specs.Option.{option_to_list}
 use Rattle.jvm_tables.specs.Externals.{externals}
 use Rattle.class_index.specs.Outlines.{outer_outline}

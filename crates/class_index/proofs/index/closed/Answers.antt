@@ -1,10 +1,10 @@
-use Rattle.std.proofs.Common.{◌≡◌, ℕ, Bool, List, length, map, Option, sym, ◌∙◌, ap, subst}
+use Rattle.std.proofs.Common.{◌≡◌, ℕ, Bool, List, length, map, sym, ◌∙◌, ap, subst}
 use Rattle.std.specs.BTreeMap.{get}
 use Rattle.std.specs.Cmp.Lexicographic.{slice_cmp}
 use Rattle.std.specs.Ordering.{nat_cmp}
 use Rattle.place_graph.specs.Graphs.{IsGraph}
 use Rattle.place_graph.specs.Orders.{IsClosed}
-use Rattle.place_graph.specs.Searches.{AreReturning, is_marked}
+use Rattle.place_graph.specs.Searches.{AreReturning}
 use Rattle.class_index.specs.declared.outline.Outline.{Outline}
 use Rattle.class_index.specs.Hierarchy.{super_by, directs_by, hierarchy}
 use Rattle.class_index.specs.Least.{IsLeast}

@@ -1,4 +1,4 @@
-use Rattle.std.proofs.Common.{◌≡◌, sym, ◌∙◌, ap, arith}
+use Rattle.std.proofs.Common.{◌∙◌, ap, arith}
 use Rattle.place_graph.specs.Graphs.{edges_of}
 use Rattle.class_index.specs.Lookups.{in_interface, specific}
 use Rattle.class_index.specs.Added.{added}

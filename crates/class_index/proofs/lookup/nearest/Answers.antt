@@ -1,6 +1,5 @@
-use Rattle.std.proofs.Common.{◌≡◌, ◌-◌, ◌+◌, ◌<◌, ℕ, suc, length, Option, Some, None, sym, ◌∙◌, ap, arith}
+use Rattle.std.proofs.Common.{◌-◌, ◌+◌, length, sym, ◌∙◌, arith}
 use Rattle.class_index.specs.Members.{wanted_method}
-use Rattle.class_index.specs.Lookups.{nearest, super_at}
 use Rattle.class_index.proofs.LookupLemmas.{nearest_found, nearest_ends, nearest_on, nearest_none, super_within}
 use Rattle.class_index.proofs.lookup.nearest.Goals as goal
 

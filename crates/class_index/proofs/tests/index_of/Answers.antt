@@ -1,4 +1,4 @@
-use Rattle.std.proofs.Common.{◌≡◌, List, refl, subst}
+use Rattle.std.proofs.Common.{refl, subst}
 use Rattle.std.specs.List.{All}
 use Rattle.class_index.specs.Members.{HasFewMembers}
 use Rattle.class_index.proofs.Built.{all_is}

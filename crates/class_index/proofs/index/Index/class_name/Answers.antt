@@ -1,4 +1,4 @@
-use Rattle.std.proofs.Common.{◌≡◌, ◌<◌, ℕ, length, get_or, sym, ◌∙◌, ap, subst, List}
+use Rattle.std.proofs.Common.{◌≡◌, ◌<◌, length, get_or, sym, ◌∙◌, ap, List}
 use Rattle.class_index.specs.declared.outline.Outline.{Outline}
 use Rattle.class_index.proofs.Questions.{place_within, class_name_is}
 use Rattle.class_index.proofs.index.Index.class_name.Goals as goal

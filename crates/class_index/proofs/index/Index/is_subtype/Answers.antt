@@ -1,4 +1,4 @@
-use Rattle.std.proofs.Common.{◌≡◌, ◌<◌, ℕ, List, length, get_or, sym, ◌∙◌, ap, subst, arith}
+use Rattle.std.proofs.Common.{◌≡◌, ℕ, List, get_or, ◌∙◌, ap, arith}
 use Rattle.place_graph.specs.Graphs.{is_among}
 use Rattle.class_index.proofs.PlaceLemmas.{length-hierarchy}
 use Rattle.class_index.proofs.Questions.{place_within, subtype_by}

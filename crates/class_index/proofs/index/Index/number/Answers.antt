@@ -1,5 +1,4 @@
-use Rattle.std.proofs.Common.{◌≡◌, ℕ, List, length, ap, arith}
-use Rattle.class_index.specs.declared.outline.Outline.{Outline}
+use Rattle.std.proofs.Common.{◌≡◌, length, ap, arith}
 use Rattle.class_index.specs.Hierarchy.{all_of}
 use Rattle.class_index.proofs.Questions.{all_are}
 use Rattle.class_index.proofs.index.Index.number.Goals as goal

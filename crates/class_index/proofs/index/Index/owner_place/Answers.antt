@@ -1,6 +1,5 @@
-use Rattle.std.proofs.Common.{◌≡◌, ℕ, ◌+◌, List, length, Option, Some, None, option_map, sym, ◌∙◌, ap, arith}
-use Rattle.jvm_tables.specs.Externals.{External, externals}
-use Rattle.class_index.specs.Hierarchy.{all_of}
+use Rattle.std.proofs.Common.{◌≡◌, ℕ, Some, option_map, ◌∙◌, ap, arith}
+use Rattle.jvm_tables.specs.Externals.{External}
 use Rattle.class_index.proofs.Outers.{count}
 use Rattle.class_index.proofs.Questions.{length-all_of}
 use Rattle.class_index.proofs.Parts.{object_row, object_there}

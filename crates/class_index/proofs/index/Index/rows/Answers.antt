@@ -1,7 +1,7 @@
-use Rattle.std.proofs.Common.{◌≡◌, ℕ, List, length, sym, ◌∙◌, ap, subst}
+use Rattle.std.proofs.Common.{ℕ, List, length, sym, ◌∙◌, ap, subst}
 use Rattle.place_graph.specs.Graphs.{edges_of, AreWithin, beyond}
 use Rattle.class_index.specs.declared.outline.Outline.{Outline}
-use Rattle.class_index.specs.Hierarchy.{all_of, hierarchy}
+use Rattle.class_index.specs.Hierarchy.{hierarchy}
 use Rattle.class_index.proofs.PlaceLemmas.{length-hierarchy}
 use Rattle.class_index.proofs.Questions.{all_are}
 use Rattle.class_index.proofs.Parts.{rows_are, above_within}

@@ -1,6 +1,5 @@
-use Rattle.std.proofs.Common.{◌≡◌, ℕ, List, length, Option, sym, ◌∙◌, ap, subst}
+use Rattle.std.proofs.Common.{ℕ, List, length, Option, sym, ◌∙◌, subst}
 use Rattle.class_index.specs.declared.outline.Outline.{Outline}
-use Rattle.class_index.specs.Hierarchy.{all_of, supers}
 use Rattle.class_index.specs.Lookups.{AreSupers}
 use Rattle.class_index.proofs.Questions.{all_are}
 use Rattle.class_index.proofs.Parts.{supers_within}
