@@ -1,4 +1,4 @@
--- Resolution and selection (JVMS 5.4.3 and 5.4.6).
+-- Resolution of fields and methods (JVMS 5.4.3).
 use Rattle.std.specs.Prelude.{ℕ, ◌+◌, Bool, true, false, List, ◌∷◌, length, codes, Option, None, option_map, option_and_then, if◌then◌else◌}
 use Rattle.class_model.specs.declared.identifiers.MemberId.{MemberId}
 use Rattle.jvm_tables.specs.Externals.{external_of}
