@@ -10,6 +10,7 @@ mod class_names;
 mod constant_pool;
 mod descriptor_text;
 mod identifiers;
+mod index_targets;
 mod modified_utf8;
 mod name_text;
 mod program_list;

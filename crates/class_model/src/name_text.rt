@@ -88,11 +88,11 @@ impl Name {
         if !is_name(bytes) {
             return Err(NameFault::BadName);
         }
-        Ok(Name::made(alloc, bytes)?)
+        Ok(Name::of_valid(alloc, bytes)?)
     }
 
     /// The name with these bytes, which are one.
-    pub(crate) fn made(alloc: Global, bytes: &[u8]) -> Result<Name, AllocError>
+    pub fn of_valid(alloc: Global, bytes: &[u8]) -> Result<Name, AllocError>
         requires { IsName bytes.now }
         ensures { IfOk result (λ name. name ≡ bytes.now) }
     {

@@ -74,7 +74,7 @@ fn name_of(alloc: Global, class: &Class) -> Result<Name, AllocError>
     requires { Shaped class.now }
     ensures { IfOk result (λ name. name ≡ class_name class.now) }
 {
-    Name::made(alloc, class.name())
+    Name::of_valid(alloc, class.name())
 }
 
 /// Of two places the one with the lesser name.
