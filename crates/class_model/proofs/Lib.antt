@@ -1,6 +1,7 @@
 pub mod UnitLemmas
 pub mod TextLemmas
 pub mod NameOfClass
+pub mod SeenMembers
 pub mod ProgramLemmas
 pub mod Dimensions
 pub mod Parameters

@@ -8,6 +8,7 @@ pub mod Spelling
 pub mod Annotations
 pub mod Attributes
 pub mod Shape
+pub mod SeenMembers
 pub mod Programs
 pub mod ProgramFaults
 pub mod TypeForms

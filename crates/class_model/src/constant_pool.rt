@@ -1,7 +1,5 @@
 //! The constant pool (JVMS 4.4).
 
-ghost use Rattle.std.specs.Prelude.{◌≡◌, option_copied};
-
 use sqlite_items::Items;
 
 /// A list of bytes.
@@ -48,6 +46,7 @@ pub enum Constant {
 }
 
 impl Pool {
+    ghost use Rattle.std.specs.Prelude.{◌≡◌, [], option_copied, unwrap_or};
     ghost use Rattle.class_model.specs.Constants.{constant_at, text_at, class_at};
 
     /// The constant of a number, which is from 1.
@@ -68,6 +67,16 @@ impl Pool {
         match self.constant(number) {
             Some(Constant::Utf8(bytes)) => Some(bytes.as_slice()),
             _ => None,
+        }
+    }
+
+    /// The same text, and nothing where there is none.
+    pub fn text_or_empty(&self, number: u16) -> &[u8]
+        ensures { result.now ≡ unwrap_or (text_at self.now number) [] }
+    {
+        match self.text(number) {
+            Some(text) => text,
+            None => &[],
         }
     }
 
