@@ -189,13 +189,12 @@ module _ (pool : Pool) (few : IsFew pool) (name : ℕ) (named : is_text pool nam
   is_no_named a b n e apart same is = another a b text e (sym (is_named_by b) ∙ subst (λ (m : ℕ). is_named pool b m ≡ true) same is) apart
 
   pub stack_maps : (Inner : List Attribute → Type 0) (inner : Attribute → List ℕ) → bytes_eq (codes "StackMapTable") text ≡ true
-      → ReadsAll (stack_map_at pool name) (λ a. Q Inner in_code (out-Attribute a)) (λ a. spelling.content_by inner (out-Attribute a))
+      → Reads (stack_map_at pool name) (λ a. Q Inner in_code (out-Attribute a)) (λ a. spelling.content_by inner (out-Attribute a))
   unfolding stack_map_at spelling.content_by frames_of
   stack_maps Inner inner e =
-      all_reads (stack_map_at pool name) _ _
-      (layer_reads roll-Attribute out-Attribute out-roll-Attribute roll-out-Attribute (counted_at (frame_at pool)) (IsCounted (IsFrame pool)) (spelling.counted spelling.frame) (Attribute-F.StackMap name) frames_of (λ x. refl) (Q Inner in_code) (spelling.content_by inner)
+      layer_reads roll-Attribute out-Attribute out-roll-Attribute roll-out-Attribute (counted_at (frame_at pool)) (IsCounted (IsFrame pool)) (spelling.counted spelling.frame) (Attribute-F.StackMap name) frames_of (λ x. refl) (Q Inner in_code) (spelling.content_by inner)
       (each_counted (frame_at pool) (IsFrame pool) spelling.frame (frame_reads pool few))
-      (λ frames p. (refl, (is_named_by (codes "StackMapTable") ∙ e, p))) from (λ frames p. refl))
+      (λ frames p. (refl, (is_named_by (codes "StackMapTable") ∙ e, p))) from (λ frames p. refl)
     where
       from : (l : AttributeLayer) → Q Inner in_code l → IsCounted (IsFrame pool) (frames_of l) × (l ≡ Attribute-F.StackMap name (frames_of l))
       from (Attribute-F.StackMap n frames) q = (q.1.1, ap (λ (m : ℕ). Attribute-F.StackMap m frames) q.0)
@@ -203,13 +202,12 @@ module _ (pool : Pool) (few : IsFew pool) (name : ℕ) (named : is_text pool nam
       from _ q = absurd q.1
 
   pub bootstraps : (Inner : List Attribute → Type 0) (inner : Attribute → List ℕ) → bytes_eq (codes "BootstrapMethods") text ≡ true
-      → ReadsAll (bootstraps_at pool name) (λ a. Q Inner in_class (out-Attribute a)) (λ a. spelling.content_by inner (out-Attribute a))
+      → Reads (bootstraps_at pool name) (λ a. Q Inner in_class (out-Attribute a)) (λ a. spelling.content_by inner (out-Attribute a))
   unfolding bootstraps_at spelling.content_by entries_of
   bootstraps Inner inner e =
-      all_reads (bootstraps_at pool name) _ _
-      (layer_reads roll-Attribute out-Attribute out-roll-Attribute roll-out-Attribute (counted_at (bootstrap_at pool)) (IsCounted (IsBootstrap pool)) (spelling.counted spelling.bootstrap) (Attribute-F.Bootstrap name) entries_of (λ x. refl) (Q Inner in_class) (spelling.content_by inner)
+      layer_reads roll-Attribute out-Attribute out-roll-Attribute roll-out-Attribute (counted_at (bootstrap_at pool)) (IsCounted (IsBootstrap pool)) (spelling.counted spelling.bootstrap) (Attribute-F.Bootstrap name) entries_of (λ x. refl) (Q Inner in_class) (spelling.content_by inner)
       (each_counted (bootstrap_at pool) (IsBootstrap pool) spelling.bootstrap (bootstrap_reads pool few))
-      (λ entries p. (refl, (is_named_by (codes "BootstrapMethods") ∙ e, p))) from (λ entries p. refl))
+      (λ entries p. (refl, (is_named_by (codes "BootstrapMethods") ∙ e, p))) from (λ entries p. refl)
     where
       from : (l : AttributeLayer) → Q Inner in_class l → IsCounted (IsBootstrap pool) (entries_of l) × (l ≡ Attribute-F.Bootstrap name (entries_of l))
       from (Attribute-F.Bootstrap n entries) q = (q.1.1, ap (λ (m : ℕ). Attribute-F.Bootstrap m entries) q.0)
@@ -222,12 +220,11 @@ module _ (pool : Pool) (few : IsFew pool) (name : ℕ) (named : is_text pool nam
   values_read descriptor = index_reads (leads_to_value pool descriptor) (λ n e. numbered pool n few (some_that (is_value_for descriptor) (constant_at pool n) e))
 
   pub constant_values : (Inner : List Attribute → Type 0) (inner : Attribute → List ℕ) (d : List ℕ) → bytes_eq (codes "ConstantValue") text ≡ true
-      → ReadsAll (constant_value_at pool d name) (λ a. Q Inner (in_field d) (out-Attribute a)) (λ a. spelling.content_by inner (out-Attribute a))
+      → Reads (constant_value_at pool d name) (λ a. Q Inner (in_field d) (out-Attribute a)) (λ a. spelling.content_by inner (out-Attribute a))
   unfolding constant_value_at spelling.content_by value_of leads_to_value
   constant_values Inner inner d e =
-      all_reads (constant_value_at pool d name) _ _
-      (layer_reads roll-Attribute out-Attribute out-roll-Attribute roll-out-Attribute (index_at (leads_to_value pool d)) (λ n. leads_to_value pool d n ≡ true) (to_be_bytes w16) (Attribute-F.ConstantValue name) value_of (λ x. refl) (Q Inner (in_field d)) (spelling.content_by inner)
-      (values_read d) (λ n p. (refl, (is_named_by (codes "ConstantValue") ∙ e, p))) from (λ n p. refl))
+      layer_reads roll-Attribute out-Attribute out-roll-Attribute roll-out-Attribute (index_at (leads_to_value pool d)) (λ n. leads_to_value pool d n ≡ true) (to_be_bytes w16) (Attribute-F.ConstantValue name) value_of (λ x. refl) (Q Inner (in_field d)) (spelling.content_by inner)
+      (values_read d) (λ n p. (refl, (is_named_by (codes "ConstantValue") ∙ e, p))) from (λ n p. refl)
     where
       from : (l : AttributeLayer) → Q Inner (in_field d) l → (leads_to_value pool d (value_of l) ≡ true) × (l ≡ Attribute-F.ConstantValue name (value_of l))
       from (Attribute-F.ConstantValue n value) q = (q.1.1, ap (λ (m : ℕ). Attribute-F.ConstantValue m value) q.0)
@@ -281,13 +278,12 @@ module _ (pool : Pool) (few : IsFew pool) (name : ℕ) (named : is_text pool nam
 
   -- annotations stand in classes, fields and methods
   pub annotated : (Inner : List Attribute → Type 0) (inner : Attribute → List ℕ) (stand : Place) (at : ℕ) → bytes_eq (own_name stand) text ≡ false → is_known stand text ≡ true
-      → ReadsAll (annotations_at pool name at) (λ a. Q Inner stand (out-Attribute a)) (λ a. spelling.content_by inner (out-Attribute a))
+      → Reads (annotations_at pool name at) (λ a. Q Inner stand (out-Attribute a)) (λ a. spelling.content_by inner (out-Attribute a))
   unfolding annotations_at spelling.content_by list_of is_known
   annotated Inner inner stand at o k =
-      all_reads (annotations_at pool name at) _ _
-      (layer_reads roll-Attribute out-Attribute out-roll-Attribute roll-out-Attribute (counted_at (note_at at pool)) (IsCounted (IsAnnotation pool)) (spelling.counted (spelling.note_by (spelling.element spelling.greatest_depth))) (Attribute-F.Annotations name) list_of (λ x. refl) (Q Inner stand) (spelling.content_by inner)
+      layer_reads roll-Attribute out-Attribute out-roll-Attribute roll-out-Attribute (counted_at (note_at at pool)) (IsCounted (IsAnnotation pool)) (spelling.counted (spelling.note_by (spelling.element spelling.greatest_depth))) (Attribute-F.Annotations name) list_of (λ x. refl) (Q Inner stand) (spelling.content_by inner)
       (each_counted (note_at at pool) (IsAnnotation pool) (spelling.note_by (spelling.element spelling.greatest_depth)) (annotation_reads at pool few))
-      (λ list p. (refl, form stand list o k p)) (λ l q. from stand l q o k) (λ list p. refl))
+      (λ list p. (refl, form stand list o k p)) (λ l q. from stand l q o k) (λ list p. refl)
     where
       form : (s : Place) (list : List Note) → bytes_eq (own_name s) text ≡ false → is_known s text ≡ true → IsCounted (IsAnnotation pool) list → HasForm Inner pool s (Attribute-F.Annotations name list)
       form in_class list o k p = (is_named_by (codes "RuntimeVisibleAnnotations") ∙ left_known (codes "BootstrapMethods") (codes "RuntimeVisibleAnnotations") k o, p)
@@ -319,7 +315,7 @@ module _ (pool : Pool) (few : IsFew pool) (name : ℕ) (named : is_text pool nam
   unfolding code_content_at is_known
   code_contents at =
       either_reads_all (bytes_eq (codes "StackMapTable") text) (stack_map_at pool name) (other_at name) _ _
-      (stack_maps (λ inner. ⊥) spelling.no_attribute)
+      (λ e. all_reads (stack_map_at pool name) _ _ (stack_maps (λ inner. ⊥) spelling.no_attribute e))
       (λ o. others (λ inner. ⊥) spelling.no_attribute in_code (not_so (is_known in_code text) (λ k. none_left (codes "StackMapTable") k o)))
     where
       not_so : (b : Bool) → (b ≡ true → ⊥) → b ≡ false

@@ -6,7 +6,6 @@ use Rattle.std.proofs.lemmas.List.{length-append}
 use Rattle.class_model.specs.declared.constant_pool.Pool.{Pool}
 use Rattle.class_model.specs.declared.class_file.Class.{Class}
 use Rattle.class_model.specs.declared.class_file.Member.{Member}
-use Rattle.class_model.specs.declared.attribute_forms.Attribute.{Attribute}
 use Rattle.class_model.specs.ClassNames.{is_class_name}
 use Rattle.class_model.specs.Constants.{class_at, is_some_that, IsPool}
 use Rattle.class_model.specs.Annotations.{IsCounted}
@@ -14,7 +13,7 @@ use Rattle.class_model.specs.Attributes.{in_class, IsAttributes}
 use Rattle.class_model.specs.Shape.{is_plain_class, class_name, has_super, IsField, IsMethod, IsMembers, Shaped}
 use Rattle.class_model.specs.Spelling as spelling
 use Rattle.class_text.specs.Reading.{Fault, bad_magic, bad_major, bytes_left, is_cut, Reading, ◌>>=◌, place, IsBytes}
-use Rattle.class_text.specs.Readers.{Reader, u2_at, u4_at, index_at, counted_at, counted_after}
+use Rattle.class_text.specs.Readers.{u2_at, u4_at, index_at, counted_at, counted_after}
 use Rattle.class_text.specs.Pool.{pool_at}
 use Rattle.class_text.specs.Attributes.{attributes_at}
 use Rattle.class_text.specs.Classes.{field_at, method_at, is_super, minor_at, major_at, behind_pool_at, class_at_front, class_of}
@@ -23,17 +22,18 @@ use Rattle.class_text.proofs.Places.{Failed, first, later, bind_err}
 use Rattle.class_text.proofs.Pools.{pool_taken, pool_again}
 use Rattle.class_text.proofs.Continued.{pool_more}
 use Rattle.class_text.proofs.Readers.{Reads, as_reads, give_reads, made_reads, reads_on, bind, bind_reads, unless_reads, place_on}
+use Rattle.class_text.proofs.Steps.{class_made, class_attributes, class_methods, class_fields, class_interfaces, class_super, class_this}
 use Rattle.class_text.proofs.Parts.{u2_reads, u4_reads, index_reads, each_counted}
 use Rattle.class_text.proofs.Numbered.{IsFew, some_that, numbered_class}
 use Rattle.class_text.proofs.CodeLaws.{plain_attributes_of}
 use Rattle.class_text.proofs.MemberLaws.{fields_read, methods_read}
 
-pool_reads : Reads pool_at IsPool spelling.pool
+pub pool_reads : Reads pool_at IsPool spelling.pool
 pool_reads = record { takes = pool_taken; again = pool_again; stays = pool_more }
 
 -- ---- the front of a file
 
-minor_reads : Reads minor_at (λ n. n < 2 ^ 16) (λ n. to_be_bytes w32 spelling.magic ++ to_be_bytes w16 n)
+pub minor_reads : Reads minor_at (λ n. n < 2 ^ 16) (λ n. to_be_bytes w32 spelling.magic ++ to_be_bytes w16 n)
 unfolding minor_at
 minor_reads =
     as_reads minor_at (λ n. (spelling.magic < 2 ^ 32) × ((eqb spelling.magic spelling.magic ≡ true) × (n < 2 ^ 16))) (λ n. to_be_bytes w32 spelling.magic ++ to_be_bytes w16 n) (λ n. n < 2 ^ 16) (λ n. to_be_bytes w32 spelling.magic ++ to_be_bytes w16 n)
@@ -41,10 +41,10 @@ minor_reads =
     (λ found low. unless_reads (eqb found spelling.magic) bad_magic u2_at (λ n. n < 2 ^ 16) (to_be_bytes w16) (λ y. u2_reads)) (λ found n q. sym (eqb-true found spelling.magic q.0)))
     (λ n p. p.1.1) (λ n q. (omega arith, (refl, q))) (λ n q. refl)
 
-IsMajor : ℕ → Type 0
+pub IsMajor : ℕ → Type 0
 IsMajor n = (52 ≤ n) × (n ≤ 65)
 
-major_reads : Reads major_at IsMajor (to_be_bytes w16)
+pub major_reads : Reads major_at IsMajor (to_be_bytes w16)
 unfolding major_at IsMajor
 major_reads =
     as_reads major_at (λ n. (n < 2 ^ 16) × (((leb 52 n && leb n 65) ≡ true) × (n ≡ n))) (λ n. to_be_bytes w16 n ++ []) IsMajor (to_be_bytes w16)
@@ -60,11 +60,11 @@ eight : (a b c d e f g : List ℕ) → a ++ (b ++ (c ++ (d ++ (e ++ (f ++ g)))))
 eight a b c d e f g = simp append_assoc
 
 module _ (minor major : ℕ) (pool : Pool) where
-  class_numbers : IsFew pool → Reads (index_at (is_plain_class pool)) (λ n. is_plain_class pool n ≡ true) (to_be_bytes w16)
+  pub class_numbers : IsFew pool → Reads (index_at (is_plain_class pool)) (λ n. is_plain_class pool n ≡ true) (to_be_bytes w16)
   unfolding is_plain_class
   class_numbers few = index_reads (is_plain_class pool) (λ n e. numbered_class pool n few (some_that is_class_name (class_at pool n) e))
 
-  super_numbers : IsFew pool → (this : ℕ) → Reads (index_at (is_super pool this)) (λ n. is_super pool this n ≡ true) (to_be_bytes w16)
+  pub super_numbers : IsFew pool → (this : ℕ) → Reads (index_at (is_super pool this)) (λ n. is_super pool this n ≡ true) (to_be_bytes w16)
   unfolding is_super is_plain_class
   super_numbers few this = index_reads (is_super pool this) low
     where
@@ -74,15 +74,11 @@ module _ (minor major : ℕ) (pool : Pool) where
         | inr f ↦ numbered_class pool n few (some_that is_class_name (class_at pool n) (rw f at e))
       ]
 
-  abbrev made : ℕ → ℕ → ℕ → List ℕ → List Member → List Member → List Attribute → Class
-  made flags this above interfaces fields methods attributes =
-      record { minor = minor; major = major; pool = pool; flags = flags; this_class = this; super_class = above; interfaces = interfaces; fields = fields; methods = methods; attributes = attributes }
-
   abbrev IsPlain : List ℕ → Type 0
   IsPlain = IsCounted (λ n. is_plain_class pool n ≡ true)
 
   abbrev C6 : ℕ → ℕ → ℕ → List ℕ → List Member → List Member → Class → Type 0
-  C6 flags this above interfaces fields methods c = IsAttributes pool in_class c.attributes × (c ≡ made flags this above interfaces fields methods c.attributes)
+  C6 flags this above interfaces fields methods c = IsAttributes pool in_class c.attributes × (c ≡ class_made minor major pool flags this above interfaces fields methods c.attributes)
 
   abbrev C5 : ℕ → ℕ → ℕ → List ℕ → List Member → Class → Type 0
   C5 flags this above interfaces fields c = IsMembers (IsMethod pool) pool c.methods × C6 flags this above interfaces fields c.methods c
@@ -123,63 +119,45 @@ module _ (minor major : ℕ) (pool : Pool) where
   abbrev s0 : Class → List ℕ
   s0 c = to_be_bytes w16 c.flags ++ s1 c
 
-  abbrev r6 : ℕ → ℕ → ℕ → List ℕ → List Member → List Member → Reader Class
-  r6 flags this above interfaces fields methods = bind (attributes_at pool in_class false) (λ found end bytes. Ok (made flags this above interfaces fields methods found, bytes))
-
-  abbrev r5 : ℕ → ℕ → ℕ → List ℕ → List Member → Reader Class
-  r5 flags this above interfaces fields = bind (counted_after (method_at pool)) (r6 flags this above interfaces fields)
-
-  abbrev r4 : ℕ → ℕ → ℕ → List ℕ → Reader Class
-  r4 flags this above interfaces = bind (counted_after (field_at pool)) (r5 flags this above interfaces)
-
-  abbrev r3 : ℕ → ℕ → ℕ → Reader Class
-  r3 flags this above = bind (counted_at (index_at (is_plain_class pool))) (r4 flags this above)
-
-  abbrev r2 : ℕ → ℕ → Reader Class
-  r2 flags this = bind (index_at (is_super pool this)) (r3 flags this)
-
-  abbrev r1 : ℕ → Reader Class
-  r1 flags = bind (index_at (is_plain_class pool)) (r2 flags)
-
-  read6 : IsFew pool → (flags this above : ℕ) (interfaces : List ℕ) (fields methods : List Member) → Reads (r6 flags this above interfaces fields methods) (C6 flags this above interfaces fields methods) s6
+  read6 : IsFew pool → (flags this above : ℕ) (interfaces : List ℕ) (fields methods : List Member) → Reads (class_attributes minor major pool flags this above interfaces fields methods) (C6 flags this above interfaces fields methods) s6
   read6 few flags this above interfaces fields methods =
-      made_reads (attributes_at pool in_class false) (IsAttributes pool in_class) (spelling.counted spelling.attribute) (made flags this above interfaces fields methods) (λ c. c.attributes) (λ xs. refl) (plain_attributes_of pool few in_class)
+      made_reads (attributes_at pool in_class false) (IsAttributes pool in_class) (spelling.counted spelling.attribute) (class_made minor major pool flags this above interfaces fields methods) (λ c. c.attributes) (λ xs. refl) (plain_attributes_of pool few in_class)
 
-  read5 : IsFew pool → (flags this above : ℕ) (interfaces : List ℕ) (fields : List Member) → Reads (r5 flags this above interfaces fields) (C5 flags this above interfaces fields) s5
+  read5 : IsFew pool → (flags this above : ℕ) (interfaces : List ℕ) (fields : List Member) → Reads (class_methods minor major pool flags this above interfaces fields) (C5 flags this above interfaces fields) s5
   read5 few flags this above interfaces fields =
-      bind_reads (counted_after (method_at pool)) (IsMembers (IsMethod pool) pool) (spelling.counted spelling.member) (r6 flags this above interfaces fields) (C6 flags this above interfaces fields) (λ ms. s6) (λ c. c.methods) (methods_read pool few)
+      bind_reads (counted_after (method_at pool)) (IsMembers (IsMethod pool) pool) (spelling.counted spelling.member) (class_attributes minor major pool flags this above interfaces fields) (C6 flags this above interfaces fields) (λ ms. s6) (λ c. c.methods) (methods_read pool few)
       (λ ms p. read6 few flags this above interfaces fields ms) (λ ms c q. ap (λ (x : Class). x.methods) q.1)
 
-  read4 : IsFew pool → (flags this above : ℕ) (interfaces : List ℕ) → Reads (r4 flags this above interfaces) (C4 flags this above interfaces) s4
+  read4 : IsFew pool → (flags this above : ℕ) (interfaces : List ℕ) → Reads (class_fields minor major pool flags this above interfaces) (C4 flags this above interfaces) s4
   read4 few flags this above interfaces =
-      bind_reads (counted_after (field_at pool)) (IsMembers (IsField pool) pool) (spelling.counted spelling.member) (r5 flags this above interfaces) (C5 flags this above interfaces) (λ fs. s5) (λ c. c.fields) (fields_read pool few)
+      bind_reads (counted_after (field_at pool)) (IsMembers (IsField pool) pool) (spelling.counted spelling.member) (class_methods minor major pool flags this above interfaces) (C5 flags this above interfaces) (λ fs. s5) (λ c. c.fields) (fields_read pool few)
       (λ fs p. read5 few flags this above interfaces fs) (λ fs c q. ap (λ (x : Class). x.fields) q.1.1)
 
-  read3 : IsFew pool → (flags this above : ℕ) → Reads (r3 flags this above) (C3 flags this above) s3
+  read3 : IsFew pool → (flags this above : ℕ) → Reads (class_interfaces minor major pool flags this above) (C3 flags this above) s3
   read3 few flags this above =
-      bind_reads (counted_at (index_at (is_plain_class pool))) IsPlain (spelling.counted (to_be_bytes w16)) (r4 flags this above) (C4 flags this above) (λ is. s4) (λ c. c.interfaces)
+      bind_reads (counted_at (index_at (is_plain_class pool))) IsPlain (spelling.counted (to_be_bytes w16)) (class_fields minor major pool flags this above) (C4 flags this above) (λ is. s4) (λ c. c.interfaces)
       (each_counted (index_at (is_plain_class pool)) (λ n. is_plain_class pool n ≡ true) (to_be_bytes w16) (class_numbers few))
       (λ is p. read4 few flags this above is) (λ is c q. ap (λ (x : Class). x.interfaces) q.1.1.1)
 
-  read2 : IsFew pool → (flags this : ℕ) → Reads (r2 flags this) (C2 flags this) s2
+  read2 : IsFew pool → (flags this : ℕ) → Reads (class_super minor major pool flags this) (C2 flags this) s2
   read2 few flags this =
-      bind_reads (index_at (is_super pool this)) (λ n. is_super pool this n ≡ true) (to_be_bytes w16) (r3 flags this) (C3 flags this) (λ n. s3) (λ c. c.super_class) (super_numbers few this)
+      bind_reads (index_at (is_super pool this)) (λ n. is_super pool this n ≡ true) (to_be_bytes w16) (class_interfaces minor major pool flags this) (C3 flags this) (λ n. s3) (λ c. c.super_class) (super_numbers few this)
       (λ n p. read3 few flags this n) (λ n c q. ap (λ (x : Class). x.super_class) q.1.1.1.1)
 
-  read1 : IsFew pool → (flags : ℕ) → Reads (r1 flags) (C1 flags) s1
+  read1 : IsFew pool → (flags : ℕ) → Reads (class_this minor major pool flags) (C1 flags) s1
   read1 few flags =
-      bind_reads (index_at (is_plain_class pool)) (λ n. is_plain_class pool n ≡ true) (to_be_bytes w16) (r2 flags) (C2 flags) (λ n. s2) (λ c. c.this_class) (class_numbers few)
+      bind_reads (index_at (is_plain_class pool)) (λ n. is_plain_class pool n ≡ true) (to_be_bytes w16) (class_super minor major pool flags) (C2 flags) (λ n. s2) (λ c. c.this_class) (class_numbers few)
       (λ n p. read2 few flags n) (λ n c q. ap (λ (x : Class). x.this_class) q.1.1.1.1.1)
 
-  behind_pool_reads : IsFew pool → Reads (behind_pool_at minor major pool) C0 s0
+  pub behind_pool_reads : IsFew pool → Reads (behind_pool_at minor major pool) C0 s0
   unfolding behind_pool_at
   behind_pool_reads few =
-      bind_reads u2_at (λ n. n < 2 ^ 16) (to_be_bytes w16) r1 C1 (λ n. s1) (λ c. c.flags) u2_reads
+      bind_reads u2_at (λ n. n < 2 ^ 16) (to_be_bytes w16) (class_this minor major pool) C1 (λ n. s1) (λ c. c.flags) u2_reads
       (λ n p. read1 few n) (λ n c q. ap (λ (x : Class). x.flags) q.1.1.1.1.1.1)
 
 -- ---- the file
 
-few_of : (pool : Pool) → IsPool pool → IsFew pool
+pub few_of : (pool : Pool) → IsPool pool → IsFew pool
 few_of pool is = record { few = is.counted }
 
 abbrev B1 : ℕ → ℕ → Class → Type 0
@@ -191,7 +169,7 @@ B0 minor c = IsMajor c.major × B1 minor c.major c
 abbrev B : Class → Type 0
 B c = (c.minor < 2 ^ 16) × B0 c.minor c
 
-is_made : (minor major : ℕ) (pool : Pool) (c : Class) → C0 minor major pool c → c ≡ made minor major pool c.flags c.this_class c.super_class c.interfaces c.fields c.methods c.attributes
+is_made : (minor major : ℕ) (pool : Pool) (c : Class) → C0 minor major pool c → c ≡ class_made minor major pool c.flags c.this_class c.super_class c.interfaces c.fields c.methods c.attributes
 is_made minor major pool c p = p.1.1.1.1.1.1.1
 
 abbrev behind : Class → List ℕ

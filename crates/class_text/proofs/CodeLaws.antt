@@ -1,5 +1,5 @@
 -- What holds of the readers of code, and of the attributes of classes, fields and methods.
-use Rattle.std.proofs.Common.{◌≡◌, ℕ, zero, suc, ltb, leb, ◌^◌, ◌<◌, ◌≤◌, Bool, true, false, cond, not, ◌&&◌, List, [], ◌∷◌, ◌++◌, length, codes, bytes_eq, Ok, Err, refl, sym, ap, subst, ◌∙◌, append_assoc, arith}
+use Rattle.std.proofs.Common.{◌≡◌, ℕ, zero, suc, ltb, leb, ◌^◌, ◌<◌, ◌≤◌, Bool, true, false, cond, not, ◌&&◌, List, [], ◌∷◌, ◌++◌, length, codes, bytes_eq, Err, refl, sym, ap, subst, ◌∙◌, append_assoc, arith}
 use Rattle.std.specs.List.{AllByRecursion}
 use Rattle.std.specs.Int.{w16, w32, to_be_bytes}
 use Rattle.std.proofs.lemmas.Bool.{and_parts, and_from, ltb-true, lt-ltb, leb-true, le-leb}
@@ -14,10 +14,11 @@ use Rattle.class_model.specs.Attributes.{Place, in_class, in_field, in_method, i
 use Rattle.class_model.specs.Attributes as model
 use Rattle.class_model.specs.Spelling as spelling
 use Rattle.class_text.specs.Reading.{bad_attribute, IsBytes}
-use Rattle.class_text.specs.Readers.{Reader, u2_at, u4_at, counted_at, run_at}
+use Rattle.class_text.specs.Readers.{u2_at, u4_at, counted_at, run_at}
 use Rattle.class_text.specs.Elements.{is_text}
-use Rattle.class_text.specs.Attributes.{text_of, handler_at, code_content_at, code_attribute_at, code_attributes_at, code_bytes_at, code_at, own_name, own_content_at, content_at, annotations_at, other_at, attribute_at, attributes_at}
+use Rattle.class_text.specs.Attributes.{text_of, handler_at, code_content_at, code_attribute_at, code_attributes_at, code_bytes_at, code_at, own_name, own_content_at, content_at, annotations_at, other_at, attribute_at, attributes_at, bootstraps_at, constant_value_at, stack_map_at}
 use Rattle.class_text.proofs.Readers.{Reads, ReadsAll, all_reads, as_reads, made_reads, bind, bind_reads, unless_reads, either_reads_all}
+use Rattle.class_text.proofs.Steps.{code_made, code_inner, code_table, code_run, code_locals}
 use Rattle.class_text.proofs.Parts.{u2_reads, u4_reads, run_reads, each_counted}
 use Rattle.class_text.proofs.Numbered.{IsFew, some_that}
 use Rattle.class_text.proofs.AttributeLaws.{handler_reads, code_contents, stack_maps, bootstraps, constant_values, annotated, others, own_known, is_named_by, is_no_other, is_no_named, bytes_all}
@@ -65,12 +66,12 @@ bytes_each [] are i = omega arith
 bytes_each (b ∷ bytes) are zero = are.0
 bytes_each (b ∷ bytes) are (suc i) = bytes_each bytes are.1 i
 
-record IsCodeBytes (code : List ℕ) : Type 0 where
+pub record IsCodeBytes (code : List ℕ) : Type 0 where
   some : 0 < length code
   short : length code ≤ 65535
   bytes : model.IsBytes code
 
-code_bytes_read : (pool : Pool) → IsFew pool → (at : ℕ) → Reads (code_bytes_at at) IsCodeBytes (λ code. to_be_bytes w32 (length code) ++ code)
+pub code_bytes_read : (pool : Pool) → IsFew pool → (at : ℕ) → Reads (code_bytes_at at) IsCodeBytes (λ code. to_be_bytes w32 (length code) ++ code)
 unfolding code_bytes_at
 code_bytes_read pool few at =
     as_reads (code_bytes_at at) _ _ IsCodeBytes (λ code. to_be_bytes w32 (length code) ++ code)
@@ -108,18 +109,15 @@ spelled_code : (a b c d e f : List ℕ) → a ++ (b ++ ((c ++ d) ++ (e ++ f))) �
 spelled_code a b c d e f = simp append_assoc
 
 module _ (pool : Pool) (few : IsFew pool) (name : ℕ) (named : is_text pool name ≡ true) (at : ℕ) where
-  abbrev coded : ℕ → ℕ → List ℕ → List Handler → List Attribute → Attribute
-  coded stack locals code table inner = roll-Attribute (Attribute-F.Code name stack locals code table inner)
-
   abbrev layer : Attribute → AttributeLayer
   layer a = out-Attribute a
 
-  opened : (a : Attribute) (stack locals : ℕ) (code : List ℕ) (table : List Handler) (inner : List Attribute) → a ≡ coded stack locals code table inner → out-Attribute a ≡ Attribute-F.Code name stack locals code table inner
+  opened : (a : Attribute) (stack locals : ℕ) (code : List ℕ) (table : List Handler) (inner : List Attribute) → a ≡ code_made pool name at stack locals code table inner → out-Attribute a ≡ Attribute-F.Code name stack locals code table inner
   opened a stack locals code table inner e = ap out-Attribute e ∙ out-roll-Attribute (Attribute-F.Code name stack locals code table inner)
 
   -- what was read from each part on
   abbrev P4 : ℕ → ℕ → List ℕ → List Handler → Attribute → Type 0
-  P4 stack locals code table a = IsCodeAttributes pool (inner_of (layer a)) × (a ≡ coded stack locals code table (inner_of (layer a)))
+  P4 stack locals code table a = IsCodeAttributes pool (inner_of (layer a)) × (a ≡ code_made pool name at stack locals code table (inner_of (layer a)))
 
   abbrev P3 : ℕ → ℕ → List ℕ → Attribute → Type 0
   P3 stack locals code a = IsCounted (IsHandler pool) (table_of (layer a)) × P4 stack locals code (table_of (layer a)) a
@@ -148,51 +146,36 @@ module _ (pool : Pool) (few : IsFew pool) (name : ℕ) (named : is_text pool nam
   abbrev s0 : Attribute → List ℕ
   s0 a = to_be_bytes w16 (stack_of (layer a)) ++ s1 a
 
-  abbrev give : ℕ → ℕ → List ℕ → List Handler → List Attribute → Reader Attribute
-  give stack locals code table inner end bytes = Ok (coded stack locals code table inner, bytes)
-
-  abbrev r4 : ℕ → ℕ → List ℕ → List Handler → Reader Attribute
-  r4 stack locals code table = bind (code_attributes_at pool) (give stack locals code table)
-
-  abbrev r3 : ℕ → ℕ → List ℕ → Reader Attribute
-  r3 stack locals code = bind (counted_at (handler_at pool)) (r4 stack locals code)
-
-  abbrev r2 : ℕ → ℕ → Reader Attribute
-  r2 stack locals = bind (code_bytes_at at) (r3 stack locals)
-
-  abbrev r1 : ℕ → Reader Attribute
-  r1 stack = bind u2_at (r2 stack)
-
-  read4 : (stack locals : ℕ) (code : List ℕ) (table : List Handler) → Reads (r4 stack locals code table) (P4 stack locals code table) s4
+  read4 : (stack locals : ℕ) (code : List ℕ) (table : List Handler) → Reads (code_inner pool name at stack locals code table) (P4 stack locals code table) s4
   unfolding inner_of
   read4 stack locals code table =
-      made_reads (code_attributes_at pool) (IsCodeAttributes pool) (spelling.counted spelling.code_attribute) (coded stack locals code table) (λ a. inner_of (layer a))
+      made_reads (code_attributes_at pool) (IsCodeAttributes pool) (spelling.counted spelling.code_attribute) (code_made pool name at stack locals code table) (λ a. inner_of (layer a))
       (λ inner. ap inner_of (out-roll-Attribute (Attribute-F.Code name stack locals code table inner))) (code_attributes_read pool few)
 
-  read3 : (stack locals : ℕ) (code : List ℕ) → Reads (r3 stack locals code) (P3 stack locals code) s3
+  read3 : (stack locals : ℕ) (code : List ℕ) → Reads (code_table pool name at stack locals code) (P3 stack locals code) s3
   unfolding table_of
   read3 stack locals code =
-      bind_reads (counted_at (handler_at pool)) (IsCounted (IsHandler pool)) (spelling.counted spelling.handler) (r4 stack locals code) (P4 stack locals code) (λ table. s4) (λ a. table_of (layer a))
+      bind_reads (counted_at (handler_at pool)) (IsCounted (IsHandler pool)) (spelling.counted spelling.handler) (code_inner pool name at stack locals code) (P4 stack locals code) (λ table. s4) (λ a. table_of (layer a))
       (each_counted (handler_at pool) (IsHandler pool) spelling.handler (handler_reads pool few)) (λ table p. read4 stack locals code table)
       (λ table a q. ap table_of (opened a stack locals code table (inner_of (layer a)) q.1))
 
-  read2 : (stack locals : ℕ) → Reads (r2 stack locals) (P2 stack locals) s2
+  read2 : (stack locals : ℕ) → Reads (code_run pool name at stack locals) (P2 stack locals) s2
   unfolding code_of
   read2 stack locals =
-      bind_reads (code_bytes_at at) IsCodeBytes (λ code. to_be_bytes w32 (length code) ++ code) (r3 stack locals) (P3 stack locals) (λ code. s3) (λ a. code_of (layer a))
+      bind_reads (code_bytes_at at) IsCodeBytes (λ code. to_be_bytes w32 (length code) ++ code) (code_table pool name at stack locals) (P3 stack locals) (λ code. s3) (λ a. code_of (layer a))
       (code_bytes_read pool few at) (λ code p. read3 stack locals code)
       (λ code a q. ap code_of (opened a stack locals code (table_of (layer a)) (inner_of (layer a)) q.1.1))
 
-  read1 : (stack : ℕ) → Reads (r1 stack) (P1 stack) s1
+  read1 : (stack : ℕ) → Reads (code_locals pool name at stack) (P1 stack) s1
   unfolding locals_of
   read1 stack =
-      bind_reads u2_at (λ n. n < 2 ^ 16) (to_be_bytes w16) (r2 stack) (P2 stack) (λ locals. s2) (λ a. locals_of (layer a)) u2_reads (λ locals p. read2 stack locals)
+      bind_reads u2_at (λ n. n < 2 ^ 16) (to_be_bytes w16) (code_run pool name at stack) (P2 stack) (λ locals. s2) (λ a. locals_of (layer a)) u2_reads (λ locals p. read2 stack locals)
       (λ locals a q. ap locals_of (opened a stack locals (code_of (layer a)) (table_of (layer a)) (inner_of (layer a)) q.1.1.1))
 
-  read0 : Reads (bind u2_at r1) P0 s0
+  read0 : Reads (bind u2_at (code_locals pool name at)) P0 s0
   unfolding stack_of
   read0 =
-      bind_reads u2_at (λ n. n < 2 ^ 16) (to_be_bytes w16) r1 P1 (λ stack. s1) (λ a. stack_of (layer a)) u2_reads (λ stack p. read1 stack)
+      bind_reads u2_at (λ n. n < 2 ^ 16) (to_be_bytes w16) (code_locals pool name at) P1 (λ stack. s1) (λ a. stack_of (layer a)) u2_reads (λ stack p. read1 stack)
       (λ stack a q. ap stack_of (opened a stack (locals_of (layer a)) (code_of (layer a)) (table_of (layer a)) (inner_of (layer a)) q.1.1.1.1))
 
   abbrev IsCodeLayer : AttributeLayer → Type 0
@@ -235,11 +218,10 @@ module _ (pool : Pool) (few : IsFew pool) (name : ℕ) (named : is_text pool nam
       spelled_code (to_be_bytes w16 (stack_of l)) (to_be_bytes w16 (locals_of l)) (to_be_bytes w32 (length (code_of l))) (code_of l) (spelling.counted spelling.handler (table_of l)) (spelling.counted spelling.code_attribute (inner_of l))
       ∙ ap (spelling.content_by spelling.code_attribute) (sym k.is)
 
-  pub code_reads : bytes_eq (codes "Code") (text_of pool name) ≡ true → ReadsAll (code_at pool name at) (λ a. IsCodeLayer (layer a)) (λ a. spelling.content_by spelling.code_attribute (layer a))
+  pub code_reads : bytes_eq (codes "Code") (text_of pool name) ≡ true → Reads (code_at pool name at) (λ a. IsCodeLayer (layer a)) (λ a. spelling.content_by spelling.code_attribute (layer a))
   unfolding code_at
   code_reads e =
-      all_reads (code_at pool name at) (λ a. IsCodeLayer (layer a)) (λ a. spelling.content_by spelling.code_attribute (layer a))
-      (as_reads (code_at pool name at) P0 s0 (λ a. IsCodeLayer (layer a)) (λ a. spelling.content_by spelling.code_attribute (layer a)) read0 (code_form e) (form_code e) (code_spelled e))
+      as_reads (code_at pool name at) P0 s0 (λ a. IsCodeLayer (layer a)) (λ a. spelling.content_by spelling.code_attribute (layer a)) read0 (code_form e) (form_code e) (code_spelled e)
 
 -- ---- the content of an attribute of a class, a field or a method
 
@@ -254,14 +236,14 @@ contents_read pool few stand name at named =
     either_reads_all (bytes_eq (own_name stand) (text_of pool name)) (own_content_at pool stand name at) (λ end bytes. cond (is_known stand (text_of pool name)) (annotations_at pool name at end bytes) (other_at name end bytes)) _ _
     (own stand)
     (λ o. either_reads_all (is_known stand (text_of pool name)) (annotations_at pool name at) (other_at name) _ _
-    (λ k. annotated pool few name named (IsCodeAttributes pool) spelling.code_attribute stand at o k)
+    (λ k. all_reads (annotations_at pool name at) _ _ (annotated pool few name named (IsCodeAttributes pool) spelling.code_attribute stand at o k))
     (λ k. others pool few name named (IsCodeAttributes pool) spelling.code_attribute stand k))
   where
     own : (s : Place) → bytes_eq (own_name s) (text_of pool name) ≡ true → ReadsAll (own_content_at pool s name at) (λ a. (spelling.name_of (out-Attribute a) ≡ name) × HasForm (IsCodeAttributes pool) pool s (out-Attribute a)) (λ a. spelling.content_by spelling.code_attribute (out-Attribute a))
-    own in_class e = bootstraps pool few name named (IsCodeAttributes pool) spelling.code_attribute e
-    own (in_field d) e = constant_values pool few name named (IsCodeAttributes pool) spelling.code_attribute d e
-    own in_method e = code_reads pool few name named at e
-    own in_code e = stack_maps pool few name named (IsCodeAttributes pool) spelling.code_attribute e
+    own in_class e = all_reads (bootstraps_at pool name) _ _ (bootstraps pool few name named (IsCodeAttributes pool) spelling.code_attribute e)
+    own (in_field d) e = all_reads (constant_value_at pool d name) _ _ (constant_values pool few name named (IsCodeAttributes pool) spelling.code_attribute d e)
+    own in_method e = all_reads (code_at pool name at) _ _ (code_reads pool few name named at e)
+    own in_code e = all_reads (stack_map_at pool name) _ _ (stack_maps pool few name named (IsCodeAttributes pool) spelling.code_attribute e)
 
 -- attributes of a place; where code is barred none of them is named so
 pub attributes_of : (pool : Pool) → IsFew pool → (stand : Place) (barred : Bool)

@@ -11,6 +11,7 @@ use Rattle.class_text.specs.Readers.{Reader, u4_at, index_at, counted_after, wit
 use Rattle.class_text.specs.Elements.{is_text}
 use Rattle.class_text.specs.Attributes.{text_of, is_first, named_at, attribute_by}
 use Rattle.class_text.proofs.Readers.{Reads, ReadsAll, as_reads, give_reads, bind, bind_reads, unless_reads, except_reads, here_reads}
+use Rattle.class_text.proofs.Steps.{judged}
 use Rattle.class_text.proofs.Parts.{u4_reads, counted_reads, within_reads, AllAfter, all_split, all_joined, all_as, all_mapped, all_unmapped}
 use Rattle.class_text.proofs.Once.{once_from, once_after}
 use Rattle.class_text.proofs.Numbered.{IsFew}
@@ -49,32 +50,25 @@ module _ (pool : Pool) (few : IsFew pool) (stand : Place) (barred : Bool) (conte
       bind_reads u4_at (λ len. len < 2 ^ 32) (to_be_bytes w32) (λ len. within at len (content n at)) (λ len a. ((name a ≡ n) × Form a) × (length (s a) ≡ len)) (λ len. s) (λ a. length (s a))
       u4_reads (λ len low. within_reads at len (content n at) (λ a. (name a ≡ n) × Form a) s (contents n at named)) (λ len a q. q.1)
 
-  IsNew : List Attribute → ℕ → Type 0
+  abbrev pub IsNew : List Attribute → ℕ → Type 0
   IsNew before n = (is_text pool n ≡ true) × ((is_first (is_known stand) bytes_eq (map (attribute_name pool) before) (text_of pool n) ≡ true) × ((barred && bytes_eq (codes "Code") (text_of pool n)) ≡ false))
 
-  judged : List Attribute → ℕ → ℕ → Reader ℕ
-  judged before at n end bytes =
-      cond (is_first (is_known stand) bytes_eq (map (attribute_name pool) before) (text_of pool n))
-      (cond (barred && bytes_eq (codes "Code") (text_of pool n)) (Err (bad_attribute at)) (Ok (n, bytes)))
-      (Err (second_attribute at))
-
-  judged_reads : (before : List Attribute) (at n : ℕ) → Reads (judged before at n) (λ m. (is_first (is_known stand) bytes_eq (map (attribute_name pool) before) (text_of pool n) ≡ true) × (((barred && bytes_eq (codes "Code") (text_of pool n)) ≡ false) × (m ≡ n))) (λ m. [])
-  unfolding judged
+  judged_reads : (before : List Attribute) (at n : ℕ) → Reads (judged pool stand barred before at n) (λ m. (is_first (is_known stand) bytes_eq (map (attribute_name pool) before) (text_of pool n) ≡ true) × (((barred && bytes_eq (codes "Code") (text_of pool n)) ≡ false) × (m ≡ n))) (λ m. [])
   judged_reads before at n =
       unless_reads (is_first (is_known stand) bytes_eq (map (attribute_name pool) before) (text_of pool n)) (second_attribute at) (λ end bytes. cond (barred && bytes_eq (codes "Code") (text_of pool n)) (Err (bad_attribute at)) (Ok (n, bytes))) _ _
       (λ first. except_reads (barred && bytes_eq (codes "Code") (text_of pool n)) (bad_attribute at) (λ end bytes. Ok (n, bytes)) (λ m. m ≡ n) (λ m. []) (λ plain. give_reads n))
 
-  named_reads : (before : List Attribute) → Reads (named_at pool stand barred before) (IsNew before) (to_be_bytes w16)
-  unfolding named_at judged IsNew
+  pub named_reads : (before : List Attribute) → Reads (named_at pool stand barred before) (IsNew before) (to_be_bytes w16)
+  unfolding named_at
   named_reads before =
-      here_reads (λ at. bind (index_at (is_text pool)) (judged before at)) (IsNew before) (to_be_bytes w16) (λ at.
-      as_reads (bind (index_at (is_text pool)) (judged before at)) _ _ (IsNew before) (to_be_bytes w16)
-      (bind_reads (index_at (is_text pool)) (λ n. is_text pool n ≡ true) (to_be_bytes w16) (judged before at) (λ n m. (is_first (is_known stand) bytes_eq (map (attribute_name pool) before) (text_of pool n) ≡ true) × (((barred && bytes_eq (codes "Code") (text_of pool n)) ≡ false) × (m ≡ n))) (λ n m. []) (λ m. m)
+      here_reads (λ at. bind (index_at (is_text pool)) (judged pool stand barred before at)) (IsNew before) (to_be_bytes w16) (λ at.
+      as_reads (bind (index_at (is_text pool)) (judged pool stand barred before at)) _ _ (IsNew before) (to_be_bytes w16)
+      (bind_reads (index_at (is_text pool)) (λ n. is_text pool n ≡ true) (to_be_bytes w16) (judged pool stand barred before at) (λ n m. (is_first (is_known stand) bytes_eq (map (attribute_name pool) before) (text_of pool n) ≡ true) × (((barred && bytes_eq (codes "Code") (text_of pool n)) ≡ false) × (m ≡ n))) (λ n m. []) (λ m. m)
       (text_reads pool few) (λ n named. judged_reads before at n) (λ n m q. q.1.1))
       (λ n p. (p.0, (p.1.0, p.1.1.0))) (λ n q. (q.0, (q.1.0, (q.1.1, refl)))) (λ n q. append-nil (to_be_bytes w16 n)))
 
   pub attribute_reads : (before : List Attribute) → Reads (attribute_by content pool stand barred before) (λ a. IsOne a × IsBeside before a) framed
-  unfolding attribute_by sized IsNew is_first
+  unfolding attribute_by sized is_first
   attribute_reads before =
       here_reads (λ at. bind (named_at pool stand barred before) (λ n. sized n at)) (λ a. IsOne a × IsBeside before a) framed (λ at.
       as_reads (bind (named_at pool stand barred before) (λ n. sized n at)) (λ a. IsNew before (name a) × ((length (s a) < 2 ^ 32) × (((name a ≡ name a) × Form a) × (length (s a) ≡ length (s a))))) (λ a. to_be_bytes w16 (name a) ++ (to_be_bytes w32 (length (s a)) ++ s a)) (λ a. IsOne a × IsBeside before a) framed

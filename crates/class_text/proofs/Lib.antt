@@ -14,3 +14,4 @@ pub mod FramedLaws
 pub mod CodeLaws
 pub mod MemberLaws
 pub mod ClassLaws
+pub mod Steps

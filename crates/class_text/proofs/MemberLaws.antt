@@ -1,5 +1,5 @@
 -- What holds of the readers of fields and methods.
-use Rattle.std.proofs.Common.{◌≡◌, ℕ, ◌^◌, ◌<◌, Bool, true, false, cond, not, ◌||◌, ◌⊎◌, List, [], ◌∷◌, ◌++◌, length, codes, bytes_eq, Ok, Err, refl, sym, ap, ◌∙◌, append-nil, inl, inr}
+use Rattle.std.proofs.Common.{◌≡◌, ℕ, ◌^◌, ◌<◌, Bool, true, false, not, ◌||◌, ◌⊎◌, List, [], ◌∷◌, ◌++◌, length, codes, bytes_eq, Ok, refl, sym, ap, ◌∙◌, append-nil, inl, inr}
 use Rattle.std.specs.List.{AllByRecursion}
 use Rattle.std.specs.Int.{w16, to_be_bytes}
 use Rattle.std.proofs.lemmas.Bool.{cases_Bool, and_parts, and_from}
@@ -20,6 +20,7 @@ use Rattle.class_text.specs.Elements.{is_text}
 use Rattle.class_text.specs.Attributes.{text_of, is_first, attributes_at}
 use Rattle.class_text.specs.Classes.{is_new, is_field_name, is_name_of_method, is_field_type, is_method_type, is_barred, field_at, method_at}
 use Rattle.class_text.proofs.Readers.{Reads, as_reads, give_reads, made_reads, bind, bind_reads, unless_reads, here_reads}
+use Rattle.class_text.proofs.Steps.{member_of, field_attributes, field_type, field_name, method_code, method_attributes, method_type, method_name}
 use Rattle.class_text.proofs.Parts.{u2_reads, index_reads, counted_reads, AllAfter, all_split, all_joined}
 use Rattle.class_text.proofs.Once.{once_from, once_after}
 use Rattle.class_text.proofs.Numbered.{IsFew, some_that, numbered_text}
@@ -27,20 +28,17 @@ use Rattle.class_text.proofs.AttributeLaws.{four, another, is_named_by, not_know
 use Rattle.class_text.proofs.FramedLaws.{is_code_barred}
 use Rattle.class_text.proofs.CodeLaws.{form_named, attributes_of, plain_attributes_of}
 
-abbrev member_of : ℕ → ℕ → ℕ → List Attribute → Member
-member_of flags name descriptor attributes = record { flags = flags; name = name; descriptor = descriptor; attributes = attributes }
-
 abbrev is_other_member : Pool → List Member → Member → Bool
 is_other_member pool before m = is_first (λ m. true) (are_same pool) before m
 
 -- ---- fields
 
 module _ (pool : Pool) (few : IsFew pool) (before : List Member) where
-  field_names : Reads (index_at (is_field_name pool)) (λ n. is_field_name pool n ≡ true) (to_be_bytes w16)
+  pub field_names : Reads (index_at (is_field_name pool)) (λ n. is_field_name pool n ≡ true) (to_be_bytes w16)
   unfolding is_field_name
   field_names = index_reads (is_field_name pool) (λ n e. numbered_text pool n few (some_that is_unqualified (text_at pool n) e))
 
-  field_types : (name : ℕ) → Reads (index_at (is_field_type pool before name)) (λ n. is_field_type pool before name n ≡ true) (to_be_bytes w16)
+  pub field_types : (name : ℕ) → Reads (index_at (is_field_type pool before name)) (λ n. is_field_type pool before name n ≡ true) (to_be_bytes w16)
   unfolding is_field_type
   field_types name = index_reads (is_field_type pool before name) (λ n e. numbered_text pool n few (some_that is_field_descriptor (text_at pool n) (and_parts (is_some_that is_field_descriptor (text_at pool n)) (is_new pool before name n) e).0))
 
@@ -62,26 +60,17 @@ module _ (pool : Pool) (few : IsFew pool) (before : List Member) where
   abbrev s1 : Member → List ℕ
   s1 m = to_be_bytes w16 m.name ++ s2 m
 
-  abbrev f3 : ℕ → ℕ → ℕ → Reader Member
-  f3 flags name descriptor = bind (attributes_at pool (in_field (text_of pool descriptor)) false) (λ found end bytes. Ok (member_of flags name descriptor found, bytes))
-
-  abbrev f2 : ℕ → ℕ → Reader Member
-  f2 flags name = bind (index_at (is_field_type pool before name)) (f3 flags name)
-
-  abbrev f1 : ℕ → Reader Member
-  f1 flags = bind (index_at (is_field_name pool)) (f2 flags)
-
-  field_reads_raw : Reads (bind u2_at f1) (λ m. (m.flags < 2 ^ 16) × F1 m.flags m) (λ m. to_be_bytes w16 m.flags ++ s1 m)
+  field_reads_raw : Reads (bind u2_at (field_name pool before)) (λ m. (m.flags < 2 ^ 16) × F1 m.flags m) (λ m. to_be_bytes w16 m.flags ++ s1 m)
   field_reads_raw =
-      bind_reads u2_at (λ n. n < 2 ^ 16) (to_be_bytes w16) f1 F1 (λ flags. s1) (λ m. m.flags) u2_reads
-      (λ flags a. bind_reads (index_at (is_field_name pool)) (λ n. is_field_name pool n ≡ true) (to_be_bytes w16) (f2 flags) (F2 flags) (λ name. s2) (λ m. m.name) field_names
-      (λ name b. bind_reads (index_at (is_field_type pool before name)) (λ n. is_field_type pool before name n ≡ true) (to_be_bytes w16) (f3 flags name) (F3 flags name) (λ descriptor. s3) (λ m. m.descriptor) (field_types name)
+      bind_reads u2_at (λ n. n < 2 ^ 16) (to_be_bytes w16) (field_name pool before) F1 (λ flags. s1) (λ m. m.flags) u2_reads
+      (λ flags a. bind_reads (index_at (is_field_name pool)) (λ n. is_field_name pool n ≡ true) (to_be_bytes w16) (field_type pool before flags) (F2 flags) (λ name. s2) (λ m. m.name) field_names
+      (λ name b. bind_reads (index_at (is_field_type pool before name)) (λ n. is_field_type pool before name n ≡ true) (to_be_bytes w16) (field_attributes pool before flags name) (F3 flags name) (λ descriptor. s3) (λ m. m.descriptor) (field_types name)
       (λ descriptor c. made_reads (attributes_at pool (in_field (text_of pool descriptor)) false) (IsAttributes pool (in_field (text_of pool descriptor))) (spelling.counted spelling.attribute) (member_of flags name descriptor) (λ m. m.attributes) (λ xs. refl) (plain_attributes_of pool few (in_field (text_of pool descriptor))))
       (λ descriptor m q. ap (λ (x : Member). x.descriptor) q.1))
       (λ name m q. ap (λ (x : Member). x.name) q.1.1))
       (λ flags m q. ap (λ (x : Member). x.flags) q.1.1.1)
 
-  field_reads : Reads (field_at pool before) (λ m. IsField pool m × (is_other_member pool before m ≡ true)) spelling.member
+  pub field_reads : Reads (field_at pool before) (λ m. IsField pool m × (is_other_member pool before m ≡ true)) spelling.member
   unfolding field_at is_field_name is_field_type is_new spelling.member is_first
   field_reads =
       as_reads (field_at pool before) (λ m. (m.flags < 2 ^ 16) × F1 m.flags m) (λ m. to_be_bytes w16 m.flags ++ s1 m) (λ m. IsField pool m × (is_other_member pool before m ≡ true)) spelling.member field_reads_raw
@@ -142,11 +131,11 @@ its_code_unbarred pool few false xs all e = (free xs, e)
     free (y ∷ ys) = (refl, free ys)
 
 module _ (pool : Pool) (few : IsFew pool) (before : List Member) where
-  method_names : Reads (index_at (is_name_of_method pool)) (λ n. is_name_of_method pool n ≡ true) (to_be_bytes w16)
+  pub method_names : Reads (index_at (is_name_of_method pool)) (λ n. is_name_of_method pool n ≡ true) (to_be_bytes w16)
   unfolding is_name_of_method
   method_names = index_reads (is_name_of_method pool) (λ n e. numbered_text pool n few (some_that is_method_name (text_at pool n) e))
 
-  method_types : (flags name : ℕ) → Reads (index_at (is_method_type pool before flags name)) (λ n. is_method_type pool before flags name n ≡ true) (to_be_bytes w16)
+  pub method_types : (flags name : ℕ) → Reads (index_at (is_method_type pool before flags name)) (λ n. is_method_type pool before flags name n ≡ true) (to_be_bytes w16)
   unfolding is_method_type
   method_types flags name =
       index_reads (is_method_type pool before flags name) (λ n e. numbered_text pool n few (some_that (is_method_descriptor (most_slots flags)) (text_at pool n) (and_parts (is_some_that (is_method_descriptor (most_slots flags)) (text_at pool n)) (is_new pool before name n) e).0))
@@ -175,24 +164,12 @@ module _ (pool : Pool) (few : IsFew pool) (before : List Member) where
   abbrev t1 : Member → List ℕ
   t1 m = to_be_bytes w16 m.name ++ t2 m
 
-  abbrev m4 : ℕ → ℕ → ℕ → ℕ → List Attribute → Reader Member
-  m4 at flags name descriptor found end bytes = cond (is_barred flags || has_code found) (Ok (member_of flags name descriptor found, bytes)) (Err (code_missing at))
-
-  abbrev m3 : ℕ → ℕ → ℕ → ℕ → Reader Member
-  m3 at flags name descriptor = bind (attributes_at pool in_method (is_barred flags)) (m4 at flags name descriptor)
-
-  abbrev m2 : ℕ → ℕ → ℕ → Reader Member
-  m2 at flags name = bind (index_at (is_method_type pool before flags name)) (m3 at flags name)
-
-  abbrev m1 : ℕ → ℕ → Reader Member
-  m1 at flags = bind (index_at (is_name_of_method pool)) (m2 at flags)
-
-  method_reads_raw : (at : ℕ) → Reads (bind u2_at (m1 at)) (λ m. (m.flags < 2 ^ 16) × M1 m.flags m) (λ m. to_be_bytes w16 m.flags ++ t1 m)
+  method_reads_raw : (at : ℕ) → Reads (bind u2_at (method_name pool before at)) (λ m. (m.flags < 2 ^ 16) × M1 m.flags m) (λ m. to_be_bytes w16 m.flags ++ t1 m)
   method_reads_raw at =
-      bind_reads u2_at (λ n. n < 2 ^ 16) (to_be_bytes w16) (m1 at) M1 (λ flags. t1) (λ m. m.flags) u2_reads
-      (λ flags a. bind_reads (index_at (is_name_of_method pool)) (λ n. is_name_of_method pool n ≡ true) (to_be_bytes w16) (m2 at flags) (M2 flags) (λ name. t2) (λ m. m.name) method_names
-      (λ name b. bind_reads (index_at (is_method_type pool before flags name)) (λ n. is_method_type pool before flags name n ≡ true) (to_be_bytes w16) (m3 at flags name) (M3 flags name) (λ descriptor. t3) (λ m. m.descriptor) (method_types flags name)
-      (λ descriptor c. bind_reads (attributes_at pool in_method (is_barred flags)) (IsList flags) (spelling.counted spelling.attribute) (m4 at flags name descriptor) (M4 flags name descriptor) (λ found m. []) (λ m. m.attributes) (attributes_of pool few in_method (is_barred flags))
+      bind_reads u2_at (λ n. n < 2 ^ 16) (to_be_bytes w16) (method_name pool before at) M1 (λ flags. t1) (λ m. m.flags) u2_reads
+      (λ flags a. bind_reads (index_at (is_name_of_method pool)) (λ n. is_name_of_method pool n ≡ true) (to_be_bytes w16) (method_type pool before at flags) (M2 flags) (λ name. t2) (λ m. m.name) method_names
+      (λ name b. bind_reads (index_at (is_method_type pool before flags name)) (λ n. is_method_type pool before flags name n ≡ true) (to_be_bytes w16) (method_attributes pool before at flags name) (M3 flags name) (λ descriptor. t3) (λ m. m.descriptor) (method_types flags name)
+      (λ descriptor c. bind_reads (attributes_at pool in_method (is_barred flags)) (IsList flags) (spelling.counted spelling.attribute) (method_code pool before at flags name descriptor) (M4 flags name descriptor) (λ found m. []) (λ m. m.attributes) (attributes_of pool few in_method (is_barred flags))
       (λ found d. unless_reads (is_barred flags || has_code found) (code_missing at) (λ end bytes. Ok (member_of flags name descriptor found, bytes)) (λ m. m ≡ member_of flags name descriptor found) (λ m. []) (λ y. give_reads (member_of flags name descriptor found)))
       (λ found m q. ap (λ (x : Member). x.attributes) q.1))
       (λ descriptor m q. ap (λ (x : Member). x.descriptor) q.1.1))
@@ -202,11 +179,11 @@ module _ (pool : Pool) (few : IsFew pool) (before : List Member) where
   method_spelled : (a b c d : List ℕ) → a ++ (b ++ (c ++ (d ++ []))) ≡ ((a ++ b) ++ c) ++ d
   method_spelled a b c d = ap (λ (l : List ℕ). a ++ (b ++ (c ++ l))) (append-nil d) ∙ four a b c d
 
-  method_reads : Reads (method_at pool before) (λ m. IsMethod pool m × (is_other_member pool before m ≡ true)) spelling.member
+  pub method_reads : Reads (method_at pool before) (λ m. IsMethod pool m × (is_other_member pool before m ≡ true)) spelling.member
   unfolding method_at is_name_of_method is_method_type is_new spelling.member is_first
   method_reads =
-      here_reads (λ at. bind u2_at (m1 at)) (λ m. IsMethod pool m × (is_other_member pool before m ≡ true)) spelling.member (λ at.
-      as_reads (bind u2_at (m1 at)) (λ m. (m.flags < 2 ^ 16) × M1 m.flags m) (λ m. to_be_bytes w16 m.flags ++ t1 m) (λ m. IsMethod pool m × (is_other_member pool before m ≡ true)) spelling.member (method_reads_raw at)
+      here_reads (λ at. bind u2_at (method_name pool before at)) (λ m. IsMethod pool m × (is_other_member pool before m ≡ true)) spelling.member (λ at.
+      as_reads (bind u2_at (method_name pool before at)) (λ m. (m.flags < 2 ^ 16) × M1 m.flags m) (λ m. to_be_bytes w16 m.flags ++ t1 m) (λ m. IsMethod pool m × (is_other_member pool before m ≡ true)) spelling.member (method_reads_raw at)
       (λ m p. let both = and_parts (is_some_that (is_method_descriptor (most_slots m.flags)) (text_at pool m.descriptor)) (is_other_member pool before m) p.1.1.0 in
       let listed = p.1.1.1.0 in
       (record { flags = p.0; name = p.1.0; descriptor = both.0; attributes = listed.0; code = has_its_code pool few (is_barred m.flags) m.attributes listed.0.each.1 listed.1 p.1.1.1.1.0 }, both.1))

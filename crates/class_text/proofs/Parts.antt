@@ -13,7 +13,7 @@ use Rattle.class_text.proofs.Places.{Failed, first, later, bind_err, err_is}
 use Rattle.class_text.proofs.Readers.{Reads, ReadsAll, as_reads, reads_on, give_reads, bind, bind_reads, unless_reads, here_reads, place_on}
 
 -- a number of a width
-abbrev wide_at : Width → Reader ℕ
+abbrev pub wide_at : Width → Reader ℕ
 wide_at w end bytes = or_cut (place end bytes) (number_at w bytes)
 
 wide_reads : (w : Width) (limit : ℕ) → IsWide w limit → Reads (wide_at w) (λ n. n < limit) (to_be_bytes w)
