@@ -49,7 +49,7 @@ utf8_more at bytes more f are whole e = go (number_at w16 bytes) refl e
     go None is e = absurd (let h : true ≡ false = ap is_cut (err_is (cut_short at) f e) ∙ whole in cc)
     go (Some (n, after)) is e = rw (number_more bytes n after more are is) (text_more at n after more f whole e)
 
-constant_more : (end left : ℕ) (bytes more : List ℕ) (f : Fault) → IsBytes bytes → is_cut f ≡ false → constant_at end left bytes ≡ Err f → constant_at (end + length more) left (bytes ++ more) ≡ Err f
+pub constant_more : (end left : ℕ) (bytes more : List ℕ) (f : Fault) → IsBytes bytes → is_cut f ≡ false → constant_at end left bytes ≡ Err f → constant_at (end + length more) left (bytes ++ more) ≡ Err f
 unfolding constant_at
 constant_more end left [] more f are whole e = absurd (let h : true ≡ false = ap is_cut (err_is (cut_short (place end [])) f e) ∙ whole in cc)
 constant_more end left (tag ∷ bytes) more f are whole e =

@@ -15,3 +15,4 @@ pub mod CodeLaws
 pub mod MemberLaws
 pub mod ClassLaws
 pub mod Steps
+pub mod Targets

@@ -1,5 +1,5 @@
 -- Before the place of a fault only good constants stand.
-use Rattle.std.proofs.Common.{◌≡◌, ℕ, zero, suc, eqb, ltb, ◌+◌, ◌-◌, ◌^◌, ◌≤◌, Bool, true, false, ◌&&◌, List, [], ◌∷◌, ◌++◌, length, take, drop, flat_map, Option, Some, None, Result, Ok, Err, refl, sym, ap, ◌∙◌, append_assoc, arith, inl, inr}
+use Rattle.std.proofs.Common.{◌≡◌, ℕ, zero, suc, eqb, ltb, ◌+◌, ◌-◌, ◌^◌, ◌<◌, ◌≤◌, Bool, true, false, ◌&&◌, List, [], ◌∷◌, ◌++◌, length, take, drop, flat_map, Option, Some, None, Result, Ok, Err, refl, sym, ap, subst, ◌∙◌, append_assoc, arith, inl, inr}
 use Rattle.std.specs.List.{AllByRecursion}
 use Rattle.std.specs.Int.{w16, to_be_bytes}
 use Rattle.std.proofs.lemmas.Bool.{cases_Bool}
@@ -31,43 +31,49 @@ pub bind_err : {A B : Type 0} (r : Result A Fault) (next : A → Result B Fault)
 bind_err (Ok x) next f e = later x refl e
 bind_err (Err d) next f e = first (ap (λ g. Err g) (err_is d f e))
 
--- each fault of a constant is at its own place
-cut_place : {A : Type 0} (at : ℕ) (found : Option A) (f : Fault) → or_cut at found ≡ Err f → place_of f ≡ at
-cut_place at None f e = ap place_of (sym (err_is (cut_short at) f e))
-cut_place at (Some x) f e = absurd cc
+-- what holds of each fault that a part may have
+pub cut_fault : {A : Type 0} (K : Fault → Type 0) (at : ℕ) (found : Option A) (f : Fault) → K (cut_short at) → or_cut at found ≡ Err f → K f
+cut_fault K at None f cut e = subst K (err_is (cut_short at) f e) cut
+cut_fault K at (Some x) f cut e = absurd cc
 
-text_place : (at : ℕ) (n : ℕ × List ℕ) (f : Fault) → text_of at n ≡ Err f → place_of f ≡ at
-text_place at n f e = elim (cases_Bool (ltb (length n.1) n.0)) [
-  | inl y ↦ ap place_of (sym (err_is (cut_short at) f (rw y at e)))
+text_fault : (K : Fault → Type 0) (at : ℕ) (n : ℕ × List ℕ) (f : Fault) → K (cut_short at) → K (bad_text at) → text_of at n ≡ Err f → K f
+text_fault K at n f cut text e = elim (cases_Bool (ltb (length n.1) n.0)) [
+  | inl y ↦ subst K (err_is (cut_short at) f (rw y at e)) cut
   | inr g ↦ elim (cases_Bool (is_text (take n.0 n.1))) [
     | inl y ↦ absurd (let bad : Ok (Utf8 (take n.0 n.1), drop n.0 n.1) ≡ Err f = rw (g, y) at e in cc)
-    | inr h ↦ ap place_of (sym (err_is (bad_text at) f (rw (g, h) at e)))
+    | inr h ↦ subst K (err_is (bad_text at) f (rw (g, h) at e)) text
   ]
 ]
 
-utf8_place : (at : ℕ) (bytes : List ℕ) (f : Fault) → utf8_at at bytes ≡ Err f → place_of f ≡ at
+utf8_fault : (K : Fault → Type 0) (at : ℕ) (bytes : List ℕ) (f : Fault) → K (cut_short at) → K (bad_text at) → utf8_at at bytes ≡ Err f → K f
 unfolding utf8_at
-utf8_place at bytes f e = go (bind_err (or_cut at (number_at w16 bytes)) (text_of at) f e)
+utf8_fault K at bytes f cut text e = go (bind_err (or_cut at (number_at w16 bytes)) (text_of at) f e)
   where
-    go : Failed (or_cut at (number_at w16 bytes)) (text_of at) f → place_of f ≡ at
-    go (first is) = cut_place at (number_at w16 bytes) f is
-    go (later n is is') = text_place at n f is'
+    go : Failed (or_cut at (number_at w16 bytes)) (text_of at) f → K f
+    go (first is) = cut_fault K at (number_at w16 bytes) f cut is
+    go (later n is is') = text_fault K at n f cut text is'
 
-constant_place : (end left : ℕ) (bytes : List ℕ) (f : Fault) → constant_at end left bytes ≡ Err f → place_of f ≡ place end bytes
+-- A constant has its own place in each fault, and a byte there in each but a cut.
+pub constant_fault : (K : Fault → Type 0) (end left : ℕ) (bytes : List ℕ) (f : Fault) → K (cut_short (place end bytes))
+    → (0 < length bytes → ((tag : ℕ) → K (bad_tag (place end bytes) tag)) × K (bad_text (place end bytes))) → constant_at end left bytes ≡ Err f → K f
 unfolding constant_at
-constant_place end left [] f e = ap place_of (sym (err_is (cut_short (place end [])) f e))
-constant_place end left (tag ∷ bytes) f e =
+constant_fault K end left [] f cut other e = subst K (err_is (cut_short (place end [])) f e) cut
+constant_fault K end left (tag ∷ bytes) f cut other e =
     let at = place end (tag ∷ bytes) in
+    let both = other (omega arith) in
     elim (cases_Bool (is_tag tag)) [
-      | inr g ↦ ap place_of (sym (err_is (bad_tag at tag) f (rw g at e)))
+      | inr g ↦ subst K (err_is (bad_tag at tag) f (rw g at e)) (both.0 tag)
       | inl t ↦ elim (cases_Bool (is_wide tag && ltb left 2)) [
-        | inl y ↦ ap place_of (sym (err_is (bad_tag at tag) f (rw (t, y) at e)))
+        | inl y ↦ subst K (err_is (bad_tag at tag) f (rw (t, y) at e)) (both.0 tag)
         | inr g ↦ elim (cases_Bool (eqb tag 1)) [
-          | inl y ↦ utf8_place at bytes f (rw (t, g, y) at e)
-          | inr h ↦ cut_place at (fixed_at tag bytes) f (rw (t, g, h) at e)
+          | inl y ↦ utf8_fault K at bytes f cut both.1 (rw (t, g, y) at e)
+          | inr h ↦ cut_fault K at (fixed_at tag bytes) f cut (rw (t, g, h) at e)
         ]
       ]
     ]
+
+pub constant_place : (end left : ℕ) (bytes : List ℕ) (f : Fault) → constant_at end left bytes ≡ Err f → place_of f ≡ place end bytes
+constant_place end left bytes f e = constant_fault (λ g. place_of g ≡ place end bytes) end left bytes f refl (λ some. (λ tag. refl, refl)) e
 
 -- good constants before a place
 record Before (end : ℕ) (bytes : List ℕ) (at : ℕ) : Type 0 where
@@ -162,5 +168,5 @@ pool_before end bytes f are small e = go (bind_err (or_cut at (number_at w16 byt
         counted x.0 x.1 (number_takes w16 (2 ^ 16) wide16 bytes x.0 x.1 are (is ∙ ap (λ (q : ℕ × List ℕ). Some q) same)).0 e
 
     go : Failed (or_cut at (number_at w16 bytes)) (counted_at end at) f → OnlyGoodBefore end bytes (place_of f)
-    go (first is) = inl (cut_place at (number_at w16 bytes) f is)
+    go (first is) = inl (cut_fault (λ g. place_of g ≡ at) at (number_at w16 bytes) f refl is)
     go (later x is is') = number (number_at w16 bytes) refl x is is'

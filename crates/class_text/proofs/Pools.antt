@@ -52,12 +52,12 @@ constants_taken end (suc numbers) false bytes cs rest are room e =
     subst (λ (p : List Constant × List ℕ). AreTaken false (suc numbers) bytes p.0 p.1) (ok_is (a.0.0 ∷ b.0.0, b.0.1) (cs, rest) b.2) (next_taken numbers (suc numbers) bytes a.0.0 a.0.1 b.0.0 b.0.1 one more)
 
 -- a Second is one
-is_it : (c : Constant) → is_second c ≡ true → c ≡ Second
+pub is_it : (c : Constant) → is_second c ≡ true → c ≡ Second
 is_it Second e = refl
 is_it _ e = cc
 
 -- behind a constant of two numbers another stands
-room_for : (due : Bool) (cs : List Constant) → has_seconds due cs ≡ true → due ≡ true → 1 ≤ length cs
+pub room_for : (due : Bool) (cs : List Constant) → has_seconds due cs ≡ true → due ≡ true → 1 ≤ length cs
 unfolding has_seconds
 room_for due [] s d = absurd (let h : not due ≡ true = s in let g : not due ≡ false = ap not d in cc)
 room_for due (c ∷ cs) s d = omega arith

@@ -110,3 +110,18 @@ pub record IsBehind (end : ℕ) (bytes : List ℕ) (at count : ℕ) (good : List
 abbrev pub OnlyGoodBefore : ℕ → List ℕ → ℕ → Type 0
 OnlyGoodBefore end bytes at =
     (at ≡ place end bytes) ⊎ ((count : ℕ) × (good : List Constant) × (rest : List ℕ) × IsBehind end bytes at count good rest)
+
+-- All constants are read, and the first of them with a wrong target stands at a place. Those before it lead where they
+-- may.
+pub record IsFirstWrong (end : ℕ) (bytes : List ℕ) (at : ℕ) (good : List Constant) (bad : Constant) (more : List Constant) (rest : List ℕ) (pool : Pool) : Type 0 where
+  pub constants : pool.constants ≡ good ++ bad ∷ more
+  pub spelled : bytes ≡ spelling.pool pool ++ rest
+  pub fit : AllByRecursion IsConstant pool.constants
+  pub led : AllByRecursion (λ constant. has_targets pool constant ≡ true) good
+  pub wrong : has_targets pool bad ≡ false
+  pub here : at ≡ place end (flat_map spelling.constant (bad ∷ more) ++ rest)
+
+abbrev pub IsWrongAt : ℕ → List ℕ → ℕ → Type 0
+IsWrongAt end bytes at =
+    (at ≡ place end bytes)
+    ⊎ ((good : List Constant) × (bad : Constant) × (more : List Constant) × (rest : List ℕ) × (pool : Pool) × IsFirstWrong end bytes at good bad more rest pool)

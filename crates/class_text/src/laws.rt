@@ -4,8 +4,8 @@ ghost use Rattle.std.specs.Prelude.{◌≡◌, ◌+◌, ◌++◌, ◌≤◌, ℕ
 ghost use Rattle.class_model.specs.declared.constant_pool.Pool.{Pool};
 ghost use Rattle.class_model.specs.Constants.{IsPool};
 ghost use Rattle.class_model.specs.Spelling as spelling;
-ghost use Rattle.class_text.specs.Reading.{Fault, place_of, is_cut, IsBytes};
-ghost use Rattle.class_text.specs.Pool.{pool_at, OnlyGoodBefore};
+ghost use Rattle.class_text.specs.Reading.{Fault, bad_index, place_of, is_cut, IsBytes};
+ghost use Rattle.class_text.specs.Pool.{pool_at, OnlyGoodBefore, IsWrongAt};
 
 /// A pool that is read is spelled by the bytes that it takes, and each spelling of a pool is read, whatever follows. So
 /// bytes begin with the text of at most one pool.
@@ -20,6 +20,12 @@ pub fn pool_laws()
 pub fn place_law()
     ensures { (end : ℕ) (bytes : List ℕ) (fault : Fault) → IsBytes bytes → length bytes ≤ end → pool_at end bytes ≡ Err fault
         → OnlyGoodBefore end bytes (place_of fault) }
+{}
+
+/// A wrong index in a pool is the count's, or the first that leads elsewhere: the constants before it lead where they may.
+pub fn target_law()
+    ensures { (end : ℕ) (bytes : List ℕ) (at : ℕ) → IsBytes bytes → length bytes ≤ end → pool_at end bytes ≡ Err (bad_index at)
+        → IsWrongAt end bytes at }
 {}
 
 /// A fault other than a cut stays where more bytes follow. So no text that begins with such bytes is that of a pool.

@@ -7,4 +7,4 @@ mod files;
 mod laws;
 
 pub use files::{class_continued_law, class_laws};
-pub use laws::{continued_law, place_law, pool_laws};
+pub use laws::{continued_law, place_law, pool_laws, target_law};
