@@ -14,5 +14,13 @@ pub mod FramedLaws
 pub mod CodeLaws
 pub mod MemberLaws
 pub mod ClassLaws
-pub mod Steps
+pub mod Inside
+pub mod PoolPlaces
+pub mod AttributePlaces
+pub mod ClassPlaces
+pub mod ContentPlaces
 pub mod Targets
+pub mod Stops
+pub mod PoolStops
+pub mod ClassStops
+pub mod Steps

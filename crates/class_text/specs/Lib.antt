@@ -5,3 +5,4 @@ pub mod Frames
 pub mod Elements
 pub mod Attributes
 pub mod Classes
+pub mod Places

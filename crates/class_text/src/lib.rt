@@ -6,5 +6,5 @@
 mod files;
 mod laws;
 
-pub use files::{class_continued_law, class_laws};
+pub use files::{class_continued_law, class_laws, class_place_law, content_place_law};
 pub use laws::{continued_law, place_law, pool_laws, target_law};
