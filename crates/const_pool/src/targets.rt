@@ -1,10 +1,9 @@
 //! Where the indices of constants lead.
 
-ghost use Rattle.std.specs.Prelude.{◌≡◌, ◌||◌, ◌==◌, is_some};
+ghost use Rattle.std.specs.Prelude.{◌≡◌, ◌||◌, ◌==◌};
 ghost use Rattle.std.specs.List.{list_any};
 ghost use Rattle.class_model.specs.ClassNames.{is_class_name};
-ghost use Rattle.class_model.specs.Descriptors.{is_field_descriptor, is_method_descriptor};
-ghost use Rattle.class_model.specs.Constants.{text_at, constant_at, is_some_that, is_array_descriptor, is_class_constant, is_for_field, is_for_method, is_reference, handle_tags, is_name_with, has_targets};
+ghost use Rattle.class_model.specs.Constants.{text_at, constant_at, is_some_that, is_array_descriptor, is_for_field, is_for_method, is_reference, handle_tags, is_name_with, has_targets};
 
 use class_model::{
     Constant, Pool, is_class_name, is_field_descriptor, is_method_descriptor, is_method_name,
@@ -41,44 +40,11 @@ fn is_class_text(pool: &Pool, number: u16) -> bool
     }
 }
 
-fn is_text(pool: &Pool, number: u16) -> bool
-    ensures { result ≡ is_some (text_at pool.now number) }
-{
-    pool.text(number).is_some()
-}
-
-fn is_field_text(pool: &Pool, number: u16) -> bool
-    ensures { result ≡ is_some_that is_field_descriptor (text_at pool.now number) }
-{
-    match pool.text(number) {
-        Some(text) => is_field_descriptor(text),
-        None => false,
-    }
-}
-
-fn is_method_text(pool: &Pool, number: u16) -> bool
-    ensures { result ≡ is_some_that (is_method_descriptor 255) (text_at pool.now number) }
-{
-    match pool.text(number) {
-        Some(text) => is_method_descriptor(255, text),
-        None => false,
-    }
-}
-
-fn is_class(pool: &Pool, number: u16) -> bool
-    ensures { result ≡ is_some_that is_class_constant (constant_at pool.now number) }
-{
-    match pool.constant(number) {
-        Some(Constant::Class(_)) => true,
-        _ => false,
-    }
-}
-
 fn is_for_field(pool: &Pool, number: u16) -> bool
     ensures { result ≡ is_some_that (is_for_field pool.now) (constant_at pool.now number) }
 {
     match pool.constant(number) {
-        Some(Constant::NameType { descriptor, .. }) => !is_method_text(pool, *descriptor),
+        Some(Constant::NameType { descriptor, .. }) => !pool.is_method_type(255, *descriptor),
         _ => false,
     }
 }
@@ -87,7 +53,7 @@ fn is_for_method(pool: &Pool, number: u16) -> bool
     ensures { result ≡ is_some_that (is_for_method pool.now) (constant_at pool.now number) }
 {
     match pool.constant(number) {
-        Some(Constant::NameType { descriptor, .. }) => !is_field_text(pool, *descriptor),
+        Some(Constant::NameType { descriptor, .. }) => !pool.is_field_type(*descriptor),
         _ => false,
     }
 }
@@ -141,7 +107,7 @@ fn is_name_type(pool: &Pool, name: u16, descriptor: u16) -> bool
 fn is_member(pool: &Pool, tag: u8, class: u16, name_type: u16) -> bool
     ensures { result ≡ has_targets pool.now (Constant.Ref tag class name_type) }
 {
-    if !is_class(pool, class) {
+    if !pool.is_class(class) {
         return false;
     }
     if tag == 9 {
@@ -157,7 +123,7 @@ pub fn has_targets(pool: &Pool, constant: &Constant) -> bool
 {
     match constant {
         Constant::Class(name) => is_class_text(pool, *name),
-        Constant::Text(text) => is_text(pool, *text),
+        Constant::Text(text) => pool.is_text(*text),
         Constant::Ref {
             tag,
             class,
@@ -165,7 +131,7 @@ pub fn has_targets(pool: &Pool, constant: &Constant) -> bool
         } => is_member(pool, *tag, *class, *name_type),
         Constant::NameType { name, descriptor } => is_name_type(pool, *name, *descriptor),
         Constant::Handle { kind, reference } => is_reference(pool, *kind, *reference),
-        Constant::MethodType(descriptor) => is_method_text(pool, *descriptor),
+        Constant::MethodType(descriptor) => pool.is_method_type(255, *descriptor),
         Constant::InvokeDynamic { name_type, .. } => is_for_method(pool, *name_type),
         _ => true,
     }
