@@ -4,8 +4,6 @@ ghost use Rattle.std.specs.Prelude.{◌≡◌, ◌||◌, ◌&&◌, ◌==◌, [],
 ghost use Rattle.std.specs.List.{list_any};
 ghost use Rattle.class_model.specs.declared.class_file.Member.{Member};
 ghost use Rattle.class_model.specs.declared.attribute_forms.Attribute.{out-Attribute};
-ghost use Rattle.class_model.specs.Constants.{text_at, is_some_that};
-ghost use Rattle.class_model.specs.Descriptors.{is_field_descriptor, is_method_descriptor};
 ghost use Rattle.class_model.specs.Shape.{are_same, most_slots, is_code_layer, has_code};
 ghost use Rattle.class_text.specs.Readers.{index_at, many_after, counted_after};
 ghost use Rattle.class_text.specs.Classes.{is_new, is_field_type, is_method_type, is_barred, field_at, method_at};
@@ -16,7 +14,7 @@ use crate::class_fault::ClassFault;
 use crate::numbers::{place_of, u2_in};
 use crate::stands::{Stand, text_of};
 use crate::targets::{field_name_in, method_name_in};
-use class_model::{Attribute, Member, Members, Pool, is_field_descriptor, is_method_descriptor};
+use class_model::{Attribute, Member, Members, Pool};
 use sqlite_items::Items;
 use std::alloc::Global;
 
@@ -46,29 +44,11 @@ fn is_new(pool: &Pool, before: &[Member], name: u16, descriptor: u16) -> bool
     !is_there(pool, before, name, descriptor)
 }
 
-fn is_type(pool: &Pool, number: u16) -> bool
-    ensures { result ≡ is_some_that is_field_descriptor (text_at pool.now number) }
-{
-    match pool.text(number) {
-        Some(text) => is_field_descriptor(text),
-        None => false,
-    }
-}
-
 /// The slots that parameters may take beside `this`.
 fn most_slots(flags: u16) -> u8
     ensures { result ≡ most_slots flags }
 {
     if flags & 0x0008 != 0 { 255 } else { 254 }
-}
-
-fn is_call_type(pool: &Pool, most: u8, number: u16) -> bool
-    ensures { result ≡ is_some_that (is_method_descriptor most) (text_at pool.now number) }
-{
-    match pool.text(number) {
-        Some(text) => is_method_descriptor(most, text),
-        None => false,
-    }
 }
 
 /// The descriptor of a field behind its name, which no field before has.
@@ -83,7 +63,7 @@ fn field_type_in<'a>(
     ensures { Gives (λ r. (r.0, r.1.now)) result (index_at (is_field_type pool.now before.now name) end bytes.now) }
 {
     let (number, rest) = u2_in(end, bytes)?;
-    if !is_type(pool, number) {
+    if !pool.is_field_type(number) {
         return Err(ClassFault::BadIndex(place_of(end, bytes)));
     }
     if !is_new(pool, before, name, number) {
@@ -105,7 +85,7 @@ fn method_type_in<'a>(
     ensures { Gives (λ r. (r.0, r.1.now)) result (index_at (is_method_type pool.now before.now flags name) end bytes.now) }
 {
     let (number, rest) = u2_in(end, bytes)?;
-    if !is_call_type(pool, most_slots(flags), number) {
+    if !pool.is_method_type(most_slots(flags), number) {
         return Err(ClassFault::BadIndex(place_of(end, bytes)));
     }
     if !is_new(pool, before, name, number) {
