@@ -1,11 +1,10 @@
 -- Values of annotations.
-use Rattle.std.proofs.Common.{◌≡◌, ℕ, zero, suc, ◌+◌, ◌-◌, ◌<◌, ◌≤◌, List, ◌++◌, Option, Some, None, Result, Ok, Err, OnOk, refl, sym, ap, ◌∙◌, append_assoc, arith, sub-one}
+use Rattle.std.proofs.Common.{◌≡◌, ℕ, zero, suc, ◌-◌, Result, Ok, Err, OnOk, refl, arith, sub-one}
 use Rattle.class_model.specs.declared.constant_pool.Pool.{Pool}
 use Rattle.class_model.specs.declared.annotation.Element.{Element, out-Element}
 use Rattle.class_model.specs.Annotations.{IsElement, IsElementBy}
 use Rattle.class_model.specs.Spelling as spelling
 use Rattle.const_pool.specs.declared.write_fault.Part.{Part}
-use Rattle.const_pool.specs.declared.write_fault.WriteFault.{WriteFault}
 use Rattle.const_pool.specs.declared.write_fault.WriteFault.TheVariants.{BadShape}
 use Rattle.class_write.specs.Order.{Refuses}
 use Rattle.class_write.specs.Misfits as misfits

@@ -1,5 +1,5 @@
 -- Attributes.
-use Rattle.std.proofs.Common.{◌≡◌, ℕ, ◌+◌, ◌<◌, ◌≤◌, ◌^◌, Bool, true, false, not, ◌&&◌, List, [], length, take, get_or, map, refl, sym, ap, subst, ◌∙◌, arith}
+use Rattle.std.proofs.Common.{◌≡◌, ℕ, ◌+◌, ◌<◌, ◌≤◌, ◌^◌, Bool, true, false, not, List, [], length, take, get_or, map, refl, ap, subst, ◌∙◌}
 use Rattle.std.specs.Str.{bytes_eq}
 use Rattle.std.specs.Cmp.Lexicographic.{nat_list_eq_equiv}
 use Rattle.std.proofs.lemmas.Bool.{and_parts, and_from}
@@ -7,15 +7,13 @@ use Rattle.std.proofs.lemmas.List.{take_all}
 use Rattle.std.proofs.lemmas.Slice.Eq.{bytes_eq-Decides}
 use Rattle.class_model.specs.declared.constant_pool.Pool.{Pool}
 use Rattle.class_model.specs.declared.attribute_forms.Attribute.{Attribute, out-Attribute}
-use Rattle.class_model.specs.Attributes.{Place, in_code, HasForm, IsCodeAttribute, IsCodeAttributes, IsAttribute, IsAttributes, IsAttributesBy, once_each, is_known, attribute_name}
-use Rattle.class_model.specs.Annotations.{IsCounted}
+use Rattle.class_model.specs.Attributes.{Place, HasForm, IsCodeAttribute, IsCodeAttributes, IsAttribute, once_each, is_known, attribute_name}
 use Rattle.class_model.specs.Shape.{is_code_layer}
 use Rattle.class_model.specs.Spelling as spelling
 use Rattle.const_pool.specs.declared.write_fault.Holder.{Holder}
 use Rattle.class_write.specs.Contents.{HasContent, HasPlainContent}
 use Rattle.class_write.specs.Misfits as misfits
 use Rattle.class_write.specs.Misfits.{place_of}
-use Rattle.class_write.specs.Order.{is_again}
 use Rattle.class_write.proofs.Once.{IsFair, once_map, once_next}
 use Rattle.class_write.proofs.ContentLemmas.{form_from, place_of_code, method_has_code, stands_parts}
 

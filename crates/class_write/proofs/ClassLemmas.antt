@@ -1,5 +1,5 @@
 -- The class as a whole.
-use Rattle.std.proofs.Common.{◌≡◌, ℕ, List, [], ◌++◌, Option, None, true, refl, sym, ap, ◌∙◌, append_assoc}
+use Rattle.std.proofs.Common.{◌≡◌, ℕ, List, [], ◌++◌, None, true, ap, ◌∙◌, append_assoc}
 use Rattle.class_model.specs.declared.class_file.Class.{Class}
 use Rattle.class_model.specs.Annotations.{IsCounted}
 use Rattle.class_model.specs.Attributes.{IsAttributes, in_class}

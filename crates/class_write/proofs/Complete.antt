@@ -1,9 +1,9 @@
 -- A shaped class has no misfit.
-use Rattle.std.proofs.Common.{◌≡◌, ℕ, zero, suc, ◌+◌, ◌<◌, ◌≤◌, ◌^◌, Bool, true, false, not, ◌&&◌, ◌||◌, cond, ltb, leb, List, [], ◌∷◌, ◌++◌, length, take, map, Option, Some, None, refl, sym, ap, subst, ◌∙◌, append_assoc, length-append, arith}
-use Rattle.std.specs.List.{list_any, AllByRecursion}
+use Rattle.std.proofs.Common.{◌≡◌, ℕ, zero, suc, ◌+◌, ◌^◌, Bool, true, false, not, ◌&&◌, ◌||◌, cond, ltb, leb, List, [], ◌∷◌, ◌++◌, length, map, Option, None, refl, sym, ap, ◌∙◌, append_assoc, length-append}
+use Rattle.std.specs.List.{AllByRecursion}
 use Rattle.std.specs.Str.{bytes_eq}
-use Rattle.std.proofs.lemmas.Bool.{cases_Bool, and_from, lt-ltb, le-leb}
-use Rattle.std.proofs.lemmas.List.{append-nil, take_at}
+use Rattle.std.proofs.lemmas.Bool.{and_from, lt-ltb, le-leb}
+use Rattle.std.proofs.lemmas.List.{take_at}
 use Rattle.class_model.specs.declared.constant_pool.Pool.{Pool}
 use Rattle.class_model.specs.declared.stack_map.StackFrame.{StackFrame}
 use Rattle.class_model.specs.declared.stack_map.FrameType.{FrameType}
@@ -20,9 +20,8 @@ use Rattle.class_model.specs.declared.class_file.Member.{Member}
 use Rattle.class_model.specs.Layers.{AttributeLayer, ElementLayer}
 use Rattle.class_model.specs.Constants.{IsPool}
 use Rattle.class_model.specs.Annotations.{IsCounted, IsPairBy, IsNoteBy, IsElementBy, IsElement, IsAnnotation}
-use Rattle.class_model.specs.Attributes.{Place, in_code, IsFrameType, IsFrame, IsHandler, IsBootstrap, IsCode, HasForm, IsCodeAttribute, IsCodeAttributes, IsAttribute, IsAttributes, IsAttributesBy, once_each, is_known, attribute_name}
+use Rattle.class_model.specs.Attributes.{Place, in_code, IsFrameType, IsFrame, IsHandler, IsBootstrap, IsCode, IsCodeAttribute, IsCodeAttributes, IsAttribute, IsAttributes, once_each, is_known, attribute_name}
 use Rattle.class_model.specs.Shape.{IsField, IsMethod, IsMembers, Shaped, are_same, is_code_layer, has_code, descriptor_text}
-use Rattle.class_model.specs.Spelling as spelling
 use Rattle.const_pool.specs.Writing as pools
 use Rattle.const_pool.proofs.Written.{complete, misfit_few}
 use Rattle.const_pool.specs.declared.write_fault.Part.{Part}
@@ -33,11 +32,11 @@ use Rattle.const_pool.specs.declared.write_fault.WriteFault.{WriteFault}
 use Rattle.class_write.specs.Contents.{HasContent, HasPlainContent}
 use Rattle.class_write.specs.Misfits as misfits
 use Rattle.class_write.specs.Misfits.{place_of, has_form, has_name, misfit}
-use Rattle.class_write.specs.Order.{◌<|>◌, first_from, counted, is_again}
+use Rattle.class_write.specs.Order.{first_from, counted, is_again}
 use Rattle.class_write.proofs.Faults.{none_both, unless_true}
 use Rattle.class_write.proofs.FrameLemmas.{type_fits}
 use Rattle.class_write.proofs.Once.{IsFair, once_map, once_before}
-use Rattle.class_write.proofs.ContentLemmas.{form_parts, stands_from, plain_misfit}
+use Rattle.class_write.proofs.ContentLemmas.{form_parts, stands_from}
 use Rattle.class_write.proofs.AttributeLemmas as attributes
 use Rattle.class_write.proofs.MemberLemmas as members
 

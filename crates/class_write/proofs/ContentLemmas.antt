@@ -1,11 +1,11 @@
 -- Contents of attributes, and their forms in a place.
-use Rattle.std.proofs.Common.{◌≡◌, ℕ, Bool, true, false, not, ◌&&◌, List, [], refl}
+use Rattle.std.proofs.Common.{◌≡◌, ℕ, Bool, true, false, not, ◌&&◌, List, refl}
 use Rattle.std.proofs.lemmas.Bool.{and_parts, and_from}
 use Rattle.class_model.specs.declared.constant_pool.Pool.{Pool}
 use Rattle.class_model.specs.declared.attribute_forms.Attribute.{Attribute}
 use Rattle.class_model.specs.declared.attribute_forms.Attribute.TheOpen.{Attribute-F}
 use Rattle.class_model.specs.Layers.{AttributeLayer}
-use Rattle.class_model.specs.Attributes.{Place, in_class, in_field, in_method, in_code, HasForm, IsOther}
+use Rattle.class_model.specs.Attributes.{in_code, HasForm}
 use Rattle.class_model.specs.Shape.{is_code_layer}
 use Rattle.class_model.specs.Spelling as spelling
 use Rattle.const_pool.specs.declared.write_fault.Holder.{Holder}

@@ -1,7 +1,7 @@
 -- Which part of a class has no text, the first in file order, and why (JVMS chapter 4). A part that is named as a whole
 -- is too large where a count within it is the first that fails, and else of a bad shape. The length of a content is
 -- that of its text, so it is looked at behind the content.
-use Rattle.std.specs.Prelude.{ℕ, zero, suc, ◌^◌, Bool, true, false, not, ◌&&◌, ◌||◌, ◌==◌, nat_lt, nat_le, List, [], length, map, codes, Option, Some, None, is_some, if◌then◌else◌}
+use Rattle.std.specs.Prelude.{ℕ, zero, suc, ◌^◌, Bool, true, false, not, ◌&&◌, ◌||◌, ◌==◌, nat_lt, nat_le, List, [], length, codes, Option, Some, None, is_some, if◌then◌else◌}
 use Rattle.std.specs.Str.{bytes_eq}
 use Rattle.class_model.specs.declared.constant_pool.Pool.{Pool}
 use Rattle.class_model.specs.declared.stack_map.StackFrame.{StackFrame}
@@ -23,7 +23,7 @@ use Rattle.class_model.specs.Constants.{constant_at, text_at, is_some_that, is_c
 use Rattle.class_model.specs.Annotations.{is_value_of}
 use Rattle.class_model.specs.Attributes.{Place, in_class, in_field, in_method, in_code, is_known, is_named, is_value_for, has_layout, is_loadable, is_handle, attribute_name}
 use Rattle.class_model.specs.Shape.{is_plain_class, descriptor_text, are_same, most_slots, is_abstract, is_native, is_code_layer, has_code, has_super}
-use Rattle.class_model.specs.Spelling.{greatest_depth, name_of, content_by, no_attribute, code_attribute}
+use Rattle.class_model.specs.Spelling.{greatest_depth, content_by, no_attribute, code_attribute}
 use Rattle.const_pool.specs.Writing as pool
 use Rattle.const_pool.specs.declared.write_fault.Part.{Part}
 use Rattle.const_pool.specs.declared.write_fault.Part.TheVariants as parts
@@ -32,7 +32,6 @@ use Rattle.const_pool.specs.declared.write_fault.Holder.TheVariants as holders
 use Rattle.const_pool.specs.declared.write_fault.AttributeId.{AttributeId}
 use Rattle.const_pool.specs.declared.write_fault.AttributePart.{AttributePart}
 use Rattle.const_pool.specs.declared.write_fault.AttributePart.TheVariants as items
-use Rattle.const_pool.specs.declared.write_fault.MemberPart.{MemberPart}
 use Rattle.const_pool.specs.declared.write_fault.MemberPart.TheVariants as member_parts
 use Rattle.const_pool.specs.declared.write_fault.WriteFault.{WriteFault}
 use Rattle.const_pool.specs.declared.write_fault.WriteFault.TheVariants.{TooLarge, BadShape}
@@ -186,7 +185,7 @@ plain pool descriptor id (Attribute-F.Bootstrap name entries) = bootstraps pool 
 plain pool descriptor id (Attribute-F.Annotations name list) = annotations pool id list
 plain pool descriptor id (Attribute-F.Other name bytes) = None
 
--- no name that is known stands twice
+-- The name is known in the place, and an attribute of this name stands before.
 abbrev pub is_second : Pool → Place → List Attribute → ℕ → Attribute → Bool
 is_second pool place list number a =
     is_again (λ b. is_known place (attribute_name pool b)) (λ b c. bytes_eq (attribute_name pool b) (attribute_name pool c)) list number a

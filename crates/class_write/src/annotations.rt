@@ -11,7 +11,6 @@ ghost use Rattle.class_write.specs.Order.{unless, Refuses};
 ghost use Rattle.class_write.specs.Misfits as misfits;
 ghost use Rattle.const_pool.specs.declared.write_fault.WriteFault.TheVariants as faults;
 
-use crate::indices::{is_field_type, is_return_type, is_text, is_value_of};
 use crate::order::put_count;
 use class_model::{Element, Note, Pair, Pool};
 use const_pool::{AttributeId, AttributePart, Part, WriteFault, put_u2};
@@ -32,7 +31,7 @@ fn put_const(
     ensures none { OnOk result (unless (is_some_that (is_value_of tag) (constant_at pool.now index)) (faults.BadShape part) ≡ None) }
     ensures fault { IfErr result (λ e. Refuses e (unless (is_some_that (is_value_of tag) (constant_at pool.now index)) (faults.BadShape part))) }
 {
-    if !is_value_of(pool, tag, index) {
+    if !pool.is_value_of(tag, index) {
         return Err(WriteFault::BadShape(part));
     }
     out.push(tag)?;
@@ -54,10 +53,10 @@ fn put_enum(
     ensures none { OnOk result (misfits.enum_value pool.now part kind name ≡ None) }
     ensures fault { IfErr result (λ e. Refuses e (misfits.enum_value pool.now part kind name)) }
 {
-    if !is_field_type(pool, kind) {
+    if !pool.is_field_type(kind) {
         return Err(WriteFault::BadShape(part));
     }
-    if !is_text(pool, name) {
+    if !pool.is_text(name) {
         return Err(WriteFault::BadShape(part));
     }
     out.push(b'e')?;
@@ -73,7 +72,7 @@ fn put_class(out: &mut Vec<u8>, pool: &Pool, part: Part, class: u16) -> Result<(
     ensures none { OnOk result (unless (is_some_that is_return_descriptor (text_at pool.now class)) (faults.BadShape part) ≡ None) }
     ensures fault { IfErr result (λ e. Refuses e (unless (is_some_that is_return_descriptor (text_at pool.now class)) (faults.BadShape part))) }
 {
-    if !is_return_type(pool, class) {
+    if !pool.is_return_type(class) {
         return Err(WriteFault::BadShape(part));
     }
     out.push(b'c')?;
@@ -172,7 +171,7 @@ fn put_pair(
     ensures none { OnOk result (misfits.pair_by (misfits.element pool.now part depth) pool.now part pair.now ≡ None) }
     ensures fault { IfErr result (λ e. Refuses e (misfits.pair_by (misfits.element pool.now part depth) pool.now part pair.now)) }
 {
-    if !is_text(pool, pair.name) {
+    if !pool.is_text(pair.name) {
         return Err(WriteFault::BadShape(part));
     }
     put_u2(out, pair.name)?;
@@ -215,7 +214,7 @@ fn put_note(
     ensures none { OnOk result (misfits.note_by (misfits.element pool.now part depth) pool.now part note.now ≡ None) }
     ensures fault { IfErr result (λ e. Refuses e (misfits.note_by (misfits.element pool.now part depth) pool.now part note.now)) }
 {
-    if !is_field_type(pool, note.kind) {
+    if !pool.is_field_type(note.kind) {
         return Err(WriteFault::BadShape(part));
     }
     put_u2(out, note.kind)?;

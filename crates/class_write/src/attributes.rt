@@ -13,7 +13,6 @@ ghost use Rattle.class_write.specs.Misfits.{place_of};
 ghost use Rattle.class_write.specs.Order.{Refuses};
 
 use crate::contents::{put_code_bytes, put_handlers, put_plain};
-use crate::indices::is_named;
 use crate::order::{code_of, put_count};
 use class_model::{Attribute, Handler, Pool};
 use const_pool::{AttributeId, AttributePart, Holder, Part, WriteFault, put_u2, put_u4};
@@ -101,12 +100,12 @@ fn has_name(pool: &Pool, holder: Holder, attribute: &Attribute) -> bool
     ensures { (descriptor : List ℕ) → result ≡ misfits.has_name pool.now (place_of holder descriptor) (out-Attribute attribute.now) }
 {
     match attribute {
-        Attribute::Code { name, .. } => is_named(pool, b"Code", *name),
-        Attribute::StackMap { name, .. } => is_named(pool, b"StackMapTable", *name),
-        Attribute::ConstantValue { name, .. } => is_named(pool, b"ConstantValue", *name),
-        Attribute::Bootstrap { name, .. } => is_named(pool, b"BootstrapMethods", *name),
+        Attribute::Code { name, .. } => pool.is_named(b"Code", *name),
+        Attribute::StackMap { name, .. } => pool.is_named(b"StackMapTable", *name),
+        Attribute::ConstantValue { name, .. } => pool.is_named(b"ConstantValue", *name),
+        Attribute::Bootstrap { name, .. } => pool.is_named(b"BootstrapMethods", *name),
         Attribute::Annotations { name, .. } => {
-            is_named(pool, b"RuntimeVisibleAnnotations", *name)
+            pool.is_named(b"RuntimeVisibleAnnotations", *name)
         }
         Attribute::Other { name, .. } => is_unknown(pool, holder, *name),
     }
@@ -161,10 +160,7 @@ fn name_of(attribute: &Attribute) -> u16
 fn attribute_name<'a>(pool: &'a Pool, attribute: &Attribute) -> &'a [u8]
     ensures { result.now ≡ attribute_name pool.now attribute.now }
 {
-    match pool.text(name_of(attribute)) {
-        Some(text) => text,
-        None => &[],
-    }
+    pool.text_or_empty(name_of(attribute))
 }
 
 fn stands_among(pool: &Pool, list: &[Attribute], name: &[u8]) -> bool
@@ -357,56 +353,70 @@ fn put_content(
     }
 }
 
+/// What attributes stand in that aren't those of code.
+#[derive(Clone, Copy)]
+pub(crate) struct Stand<'a> {
+    pub(crate) holder: Holder,
+    /// Of a field its descriptor.
+    pub(crate) descriptor: &'a [u8],
+    /// A method that is bare has no code.
+    pub(crate) bare: bool,
+}
+
 /// Writes an attribute of a class, a field or a method, which has this number in a list.
 #[tactic(auto, using(crate::proofs::Faults::faults), unfolding(crate::specs::Misfits::attribute_of, class_model::specs::Spelling::attribute))]
 fn put_attribute(
     out: &mut Vec<u8>,
     alloc: Global,
     pool: &Pool,
-    holder: Holder,
-    descriptor: &[u8],
-    bare: bool,
+    stand: Stand<'_>,
     list: &[Attribute],
     number: u32,
     attribute: &Attribute,
 ) -> Result<(), WriteFault>
     requires { number ≤ length list.now }
     ensures ok { OnOk result (out.new.items ≡ out.old.items ++ spelling.attribute attribute.now) }
-    ensures shaped { OnOk result (IsAttribute pool.now (place_of holder descriptor.now) attribute.now) }
-    ensures place { OnOk result (misfits.has_place pool.now holder descriptor.now bare list.now number attribute.now ≡ true) }
-    ensures none { OnOk result (misfits.attribute_of pool.now holder descriptor.now bare list.now number attribute.now ≡ None) }
-    ensures fault { IfErr result (λ e. Refuses e (misfits.attribute_of pool.now holder descriptor.now bare list.now number attribute.now)) }
+    ensures shaped { OnOk result (IsAttribute pool.now (place_of stand.entry.holder stand.entry.descriptor.now) attribute.now) }
+    ensures place { OnOk result (misfits.has_place pool.now stand.entry.holder stand.entry.descriptor.now stand.entry.bare list.now number attribute.now ≡ true) }
+    ensures none { OnOk result (misfits.attribute_of pool.now stand.entry.holder stand.entry.descriptor.now stand.entry.bare list.now number attribute.now ≡ None) }
+    ensures fault { IfErr result (λ e. Refuses e (misfits.attribute_of pool.now stand.entry.holder stand.entry.descriptor.now stand.entry.bare list.now number attribute.now)) }
 {
-    let id = AttributeId { holder, number };
-    if !has_place(pool, holder, bare, list, number as usize, attribute) {
+    let id = AttributeId {
+        holder: stand.holder,
+        number,
+    };
+    if !has_place(
+        pool,
+        stand.holder,
+        stand.bare,
+        list,
+        number as usize,
+        attribute,
+    ) {
         return Err(WriteFault::BadShape(Part::Attribute(id, AttributePart::Name)));
     }
     let mut content = Vec::new(alloc);
-    put_content(&mut content, alloc, pool, descriptor, id, attribute)?;
+    put_content(&mut content, alloc, pool, stand.descriptor, id, attribute)?;
     put_framed(out, id, name_of(attribute), content.as_slice())?;
     Ok(())
 }
 
-/// Writes the attributes of a class, a field of a descriptor or a method. A method that is `bare` has no code.
+/// Writes the attributes of a class, a field or a method.
 pub(crate) fn put_attributes(
     out: &mut Vec<u8>,
     alloc: Global,
     pool: &Pool,
-    holder: Holder,
-    descriptor: &[u8],
-    bare: bool,
+    stand: Stand<'_>,
     list: &[Attribute],
 ) -> Result<(), WriteFault>
     ensures ok { OnOk result (out.new.items ≡ out.old.items ++ spelling.counted spelling.attribute list.now) }
-    ensures shaped { OnOk result (IsAttributes pool.now (place_of holder descriptor.now) list.now) }
-    ensures none { OnOk result (misfits.attributes pool.now holder descriptor.now bare list.now ≡ None) }
-    ensures fault { IfErr result (λ e. Refuses e (misfits.attributes pool.now holder descriptor.now bare list.now)) }
+    ensures shaped { OnOk result (IsAttributes pool.now (place_of stand.entry.holder stand.entry.descriptor.now) list.now) }
+    ensures none { OnOk result (misfits.attributes pool.now stand.entry.holder stand.entry.descriptor.now stand.entry.bare list.now ≡ None) }
+    ensures fault { IfErr result (λ e. Refuses e (misfits.attributes pool.now stand.entry.holder stand.entry.descriptor.now stand.entry.bare list.now)) }
 {
-    put_count(out, Part::Attributes(holder), list.len())?;
+    put_count(out, Part::Attributes(stand.holder), list.len())?;
     for i in 0..list.len() {
-        put_attribute(
-            out, alloc, pool, holder, descriptor, bare, list, i as u32, &list[i],
-        )?;
+        put_attribute(out, alloc, pool, stand, list, i as u32, &list[i])?;
     }
     Ok(())
 }

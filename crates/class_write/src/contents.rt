@@ -15,7 +15,6 @@ ghost use Rattle.const_pool.specs.declared.write_fault.WriteFault.TheVariants as
 
 use crate::annotations::put_annotations;
 use crate::frames::put_frames;
-use crate::indices::{is_class, is_handle, is_loadable, is_value_for};
 use crate::order::put_count;
 use class_model::{Attribute, Bootstrap, Handler, Pool};
 use const_pool::{AttributeId, AttributePart, Part, WriteFault, put_u2, put_u4};
@@ -27,7 +26,7 @@ fn is_catch_type(pool: &Pool, class: u16) -> bool
     if class == 0 {
         return true;
     }
-    is_class(pool, class)
+    pool.is_class(class)
 }
 
 #[tactic(auto, using(crate::proofs::Faults::faults), unfolding(class_model::specs::Spelling::handler))]
@@ -83,7 +82,7 @@ fn put_argument(out: &mut Vec<u8>, pool: &Pool, part: Part, index: u16) -> Resul
     ensures none { OnOk result (misfits.argument pool.now part index ≡ None) }
     ensures fault { IfErr result (λ e. Refuses e (misfits.argument pool.now part index)) }
 {
-    if !is_loadable(pool, index) {
+    if !pool.is_loadable(index) {
         return Err(WriteFault::BadShape(part));
     }
     put_u2(out, index)?;
@@ -120,7 +119,7 @@ fn put_bootstrap(
     ensures none { OnOk result (misfits.bootstrap pool.now part bootstrap.now ≡ None) }
     ensures fault { IfErr result (λ e. Refuses e (misfits.bootstrap pool.now part bootstrap.now)) }
 {
-    if !is_handle(pool, bootstrap.handle) {
+    if !pool.is_handle(bootstrap.handle) {
         return Err(WriteFault::BadShape(part));
     }
     put_u2(out, bootstrap.handle)?;
@@ -166,7 +165,7 @@ fn put_value(
     ensures none { OnOk result (misfits.value pool.now descriptor.now id index ≡ None) }
     ensures fault { IfErr result (λ e. Refuses e (misfits.value pool.now descriptor.now id index)) }
 {
-    if !is_value_for(pool, descriptor, index) {
+    if !pool.is_value_for(descriptor, index) {
         return Err(WriteFault::BadShape(Part::Attribute(id, AttributePart::Value)));
     }
     put_u2(out, index)?;

@@ -11,7 +11,6 @@ ghost use Rattle.class_write.specs.Misfits.{at};
 ghost use Rattle.class_write.specs.FrameText.{head, lists};
 ghost use Rattle.const_pool.specs.declared.write_fault.AttributePart.TheVariants as items;
 
-use crate::indices::is_class;
 use crate::order::put_count;
 use class_model::{FrameType, Pool, StackFrame};
 use const_pool::{AttributeId, AttributePart, Part, WriteFault, put_u2};
@@ -25,7 +24,7 @@ fn is_frame_type(pool: &Pool, t: &FrameType) -> bool
         return false;
     }
     match tag {
-        7 => is_class(pool, index),
+        7 => pool.is_class(index),
         8 => true,
         _ => index == 0,
     }

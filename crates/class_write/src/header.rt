@@ -12,8 +12,7 @@ ghost use Rattle.class_write.specs.Misfits as misfits;
 ghost use Rattle.class_write.specs.Misfits.{misfit};
 ghost use Rattle.class_write.specs.Order.{Refuses};
 
-use crate::attributes::put_attributes;
-use crate::indices::is_plain_class;
+use crate::attributes::{Stand, put_attributes};
 use crate::members::{put_fields, put_methods};
 use crate::order::put_count;
 use class_model::{Class, Pool};
@@ -61,7 +60,7 @@ fn has_super(class: &Class) -> bool
     if class.super_class == 0 {
         return class.name() == b"java/lang/Object".as_slice();
     }
-    is_plain_class(&class.pool, class.super_class)
+    class.pool.is_plain_class(class.super_class)
 }
 
 /// Writes the flags and the indices of the class and its super class.
@@ -74,7 +73,7 @@ fn put_names(out: &mut Vec<u8>, class: &Class) -> Result<(), WriteFault>
     ensures none { OnOk result (misfits.names class.now ≡ None) }
     ensures fault { IfErr result (λ e. Refuses e (misfits.names class.now)) }
 {
-    if !is_plain_class(&class.pool, class.this_class) {
+    if !class.pool.is_plain_class(class.this_class) {
         return Err(WriteFault::BadShape(Part::ThisClass));
     }
     if !has_super(class) {
@@ -93,7 +92,7 @@ fn put_interface(out: &mut Vec<u8>, pool: &Pool, number: u32, index: u16) -> Res
     ensures none { OnOk result (misfits.interface pool.now number index ≡ None) }
     ensures fault { IfErr result (λ e. Refuses e (misfits.interface pool.now number index)) }
 {
-    if !is_plain_class(pool, index) {
+    if !pool.is_plain_class(index) {
         return Err(WriteFault::BadShape(Part::Interface(number)));
     }
     put_u2(out, index)?;
@@ -143,15 +142,12 @@ fn put_lists(out: &mut Vec<u8>, alloc: Global, class: &Class) -> Result<(), Writ
     put_interfaces(out, pool, class.interfaces.as_slice())?;
     put_fields(out, alloc, pool, class.fields.as_slice())?;
     put_methods(out, alloc, pool, class.methods.as_slice())?;
-    put_attributes(
-        out,
-        alloc,
-        pool,
-        Holder::Class,
-        &[],
-        false,
-        class.attributes.as_slice(),
-    )?;
+    let stand = Stand {
+        holder: Holder::Class,
+        descriptor: &[],
+        bare: false,
+    };
+    put_attributes(out, alloc, pool, stand, class.attributes.as_slice())?;
     Ok(())
 }
 

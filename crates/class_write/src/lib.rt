@@ -8,7 +8,6 @@ mod attributes;
 mod contents;
 mod frames;
 mod header;
-mod indices;
 mod laws;
 mod members;
 mod order;

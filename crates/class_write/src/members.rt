@@ -3,41 +3,21 @@
 ghost use Rattle.std.specs.Prelude.{◌≡◌, ◌++◌, ◌∷◌, [], ◌<◌, ◌^◌, List, true, false, length, None, IfOk, OnOk, IfErr, IsOkUnless};
 ghost use Rattle.std.specs.List.{list_any};
 ghost use Rattle.class_model.specs.declared.class_file.Member.{Member};
-ghost use Rattle.class_model.specs.Shape.{IsField, IsMethod, IsMembers, name_text, descriptor_text, are_same, most_slots};
+ghost use Rattle.class_model.specs.Shape.{IsField, IsMethod, IsMembers, are_same, most_slots};
+ghost use Rattle.class_model.specs.SeenMembers.{HasSeen};
 ghost use Rattle.class_model.specs.Spelling as spelling;
-ghost use Rattle.class_write.specs.Doubles.{HasSeen};
 ghost use Rattle.class_write.specs.Misfits as misfits;
 ghost use Rattle.class_write.specs.Order.{Refuses};
 
-use crate::attributes::{has_code, put_attributes};
-use crate::indices::{is_field_name, is_field_type, is_method_name_at, is_method_type};
+use crate::attributes::{Stand, has_code, put_attributes};
 use crate::order::put_count;
-use class_model::{Member, Pool};
+use class_model::{Member, MemberNames, Pool};
 use const_pool::{Holder, MemberPart, Part, WriteFault, put_u2};
 use std::alloc::Global;
-use std::collections::BTreeSet;
 
-fn name_text<'a>(pool: &'a Pool, member: &Member) -> &'a [u8]
-    ensures { result.now ≡ name_text pool.now member.now }
-{
-    match pool.text(member.name) {
-        Some(text) => text,
-        None => &[],
-    }
-}
-
-fn descriptor_text<'a>(pool: &'a Pool, member: &Member) -> &'a [u8]
-    ensures { result.now ≡ descriptor_text pool.now member.now }
-{
-    match pool.text(member.descriptor) {
-        Some(text) => text,
-        None => &[],
-    }
-}
-
-/// Enters a member into the set of those before it, and tells whether one of them has its name and descriptor.
+/// Enters a member behind those before it, and tells whether one of them has its name and descriptor.
 fn enter<'a>(
-    seen: &mut BTreeSet<(&'a [u8], &'a [u8])>,
+    seen: &mut MemberNames<'a>,
     pool: &'a Pool,
     member: &Member,
 ) -> Result<bool, WriteFault>
@@ -45,7 +25,7 @@ fn enter<'a>(
     ensures seen { (before : List Member) → HasSeen pool.now before seen.old → OnOk result (HasSeen pool.now (before ++ member.now ∷ []) seen.new) }
     ensures memory { IsOkUnless result WriteFault.Memory }
 {
-    let added = seen.insert((name_text(pool, member), descriptor_text(pool, member)))?;
+    let added = seen.insert(pool, member.name, member.descriptor)?;
     Ok(!added)
 }
 
@@ -77,24 +57,19 @@ fn put_field(
     ensures none { OnOk result (misfits.field pool.now double number field.now ≡ None) }
     ensures fault { IfErr result (λ e. Refuses e (misfits.field pool.now double number field.now)) }
 {
-    if !is_field_name(pool, field.name) {
+    if !pool.is_field_name(field.name) {
         return Err(WriteFault::BadShape(Part::Field(number, MemberPart::Name)));
     }
-    if !is_field_type(pool, field.descriptor) || double {
+    if !pool.is_field_type(field.descriptor) || double {
         return Err(WriteFault::BadShape(Part::Field(number, MemberPart::Descriptor)));
     }
     put_head(out, field)?;
-    let holder = Holder::Field(number);
-    let descriptor = descriptor_text(pool, field);
-    put_attributes(
-        out,
-        alloc,
-        pool,
-        holder,
-        descriptor,
-        false,
-        field.attributes.as_slice(),
-    )?;
+    let stand = Stand {
+        holder: Holder::Field(number),
+        descriptor: pool.text_or_empty(field.descriptor),
+        bare: false,
+    };
+    put_attributes(out, alloc, pool, stand, field.attributes.as_slice())?;
     Ok(())
 }
 
@@ -111,7 +86,7 @@ pub(crate) fn put_fields(
     ensures fault { IfErr result (λ e. Refuses e (misfits.fields pool.now fields.now)) }
 {
     put_count(out, Part::Fields, fields.len())?;
-    let mut seen = BTreeSet::new(alloc);
+    let mut seen = MemberNames::new(alloc);
     for i in 0..fields.len() {
         let field = &fields[i];
         let double = enter(&mut seen, pool, field)?;
@@ -157,24 +132,19 @@ fn put_method(
     ensures none { OnOk result (misfits.method pool.now double number method.now ≡ None) }
     ensures fault { IfErr result (λ e. Refuses e (misfits.method pool.now double number method.now)) }
 {
-    if !is_method_name_at(pool, method.name) {
+    if !pool.is_method_name(method.name) {
         return Err(WriteFault::BadShape(Part::Method(number, MemberPart::Name)));
     }
-    if !is_method_type(pool, most_slots(method), method.descriptor) || double {
+    if !pool.is_method_type(most_slots(method), method.descriptor) || double {
         return Err(WriteFault::BadShape(Part::Method(number, MemberPart::Descriptor)));
     }
     put_head(out, method)?;
-    let bare = is_bare(method);
-    let holder = Holder::Method(number);
-    put_attributes(
-        out,
-        alloc,
-        pool,
-        holder,
-        &[],
-        bare,
-        method.attributes.as_slice(),
-    )?;
+    let stand = Stand {
+        holder: Holder::Method(number),
+        descriptor: &[],
+        bare: is_bare(method),
+    };
+    put_attributes(out, alloc, pool, stand, method.attributes.as_slice())?;
     if !has_its_code(method) {
         return Err(WriteFault::BadShape(Part::Method(number, MemberPart::Code)));
     }
@@ -194,7 +164,7 @@ pub(crate) fn put_methods(
     ensures fault { IfErr result (λ e. Refuses e (misfits.methods pool.now methods.now)) }
 {
     put_count(out, Part::Methods, methods.len())?;
-    let mut seen = BTreeSet::new(alloc);
+    let mut seen = MemberNames::new(alloc);
     for i in 0..methods.len() {
         let method = &methods[i];
         let double = enter(&mut seen, pool, method)?;

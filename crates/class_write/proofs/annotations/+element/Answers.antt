@@ -1,10 +1,7 @@
-use Rattle.std.proofs.Common.{◌≡◌, ◌++◌, sym, ◌∙◌, ap}
-use Rattle.class_write.specs.Order.{Refuses}
-use Rattle.class_write.specs.Misfits as misfits
-use Rattle.class_model.specs.Spelling as spelling
-use Rattle.class_write.proofs.Faults.{passed_on, none_both, unless_true}
-use Rattle.class_write.proofs.Lists.{refused_count, refused_at, one_more, all_written, all_shaped, all_fit, at_start}
-use Rattle.class_write.proofs.AnnotationLemmas.{on_ok, text_below, misfit_below, shape_below, no_depth}
+use Rattle.std.proofs.Common.{◌∙◌}
+use Rattle.class_write.proofs.Faults.{passed_on}
+use Rattle.class_write.proofs.Lists.{refused_count, refused_at, one_more, all_written, all_shaped, all_fit}
+use Rattle.class_write.proofs.AnnotationLemmas.{text_below, misfit_below, shape_below, no_depth}
 use Rattle.class_write.proofs.annotations.+element.Goals as goal
 
 pub put_element-returns-then-depth-eq0-clause-fault : goal.put_element-returns-then-depth-eq0-clause-fault

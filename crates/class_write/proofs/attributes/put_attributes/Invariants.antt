@@ -8,5 +8,5 @@ use Rattle.class_write.proofs.attributes.put_attributes.Given as goal
 
 abbrev pub invariant-loop-i : goal.invariant-loop-i
 invariant-loop-i l =
-    SoFar spelling.attribute (IsAttribute l.pool (misfits.place_of l.holder l.descriptor)) (misfits.attribute_of l.pool l.holder l.descriptor l.bare l.list) l.list l.i l.initial.out.items l.out.items
-    × (once_each (counts l.pool (misfits.place_of l.holder l.descriptor)) (same l.pool) (take l.i l.list) ≡ true)
+    SoFar spelling.attribute (IsAttribute l.pool (misfits.place_of l.stand.holder l.stand.descriptor.now)) (misfits.attribute_of l.pool l.stand.holder l.stand.descriptor.now l.stand.bare l.list) l.list l.i l.initial.out.items l.out.items
+    × (once_each (counts l.pool (misfits.place_of l.stand.holder l.stand.descriptor.now)) (same l.pool) (take l.i l.list) ≡ true)

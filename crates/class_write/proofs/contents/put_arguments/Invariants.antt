@@ -2,7 +2,6 @@ use Rattle.std.proofs.Common.{◌≡◌, true}
 use Rattle.class_model.specs.Attributes.{is_loadable}
 use Rattle.class_model.specs.Constants.{constant_at, is_some_that}
 use Rattle.class_model.specs.Spelling as spelling
-use Rattle.const_pool.specs.declared.write_fault.AttributePart.TheVariants as items
 use Rattle.class_write.specs.Misfits as misfits
 use Rattle.class_write.proofs.Lists.{SoFar}
 use Rattle.class_write.proofs.contents.put_arguments.Given as goal

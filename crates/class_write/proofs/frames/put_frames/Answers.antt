@@ -1,4 +1,3 @@
-use Rattle.std.proofs.Common.{◌≡◌}
 use Rattle.class_write.proofs.Faults.{passed_on}
 use Rattle.class_write.proofs.Lists.{refused_count, refused_at, one_more, all_written, all_shaped, all_fit}
 use Rattle.class_write.proofs.frames.put_frames.Goals as goal

@@ -1,4 +1,4 @@
-use Rattle.std.proofs.Common.{◌≡◌, arith, ◌≤◌, length}
+use Rattle.std.proofs.Common.{◌≡◌, arith}
 use Rattle.std.proofs.lemmas.Bool.{ne_eqb}
 use Rattle.class_write.proofs.FrameLemmas.{IsSmall, small}
 use Rattle.class_write.proofs.frames.put_lists.Goals as goal

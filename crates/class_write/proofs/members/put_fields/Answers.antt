@@ -1,5 +1,4 @@
-use Rattle.std.proofs.Common.{◌≡◌, take}
-use Rattle.class_model.specs.declared.class_file.Member.{Member}
+use Rattle.std.proofs.Common.{rules, ◌≡◌, take, refl}
 use Rattle.class_write.specs.Misfits as misfits
 use Rattle.class_write.proofs.Faults.{passed_on, refuses_memory}
 use Rattle.class_write.proofs.Lists.{refused_count, refused_at, one_more, all_written, all_shaped, all_fit, front_more}
@@ -19,6 +18,9 @@ returns-in_err-put_field-clause-fault c =
     let double : misfits.is_double c.args.pool.now c.args.fields.now c.loop-i.i c.index-fields-i.result ≡ c.in_ok-double.double = c.in_ok-double.ensures.double before c.loop-i.invariant.2 in
     passed_on _ _ _ c.from_residual-in_err-put_field.ensures.1
     (refused_at _ _ _ c.loop-i.invariant.0 c.loop-i-test.true c.index-fields-i.is c.in_ok-put_count.ensures.few (rw double c.in_err-put_field.ensures.fault))
+
+pub loop-i-init : goal.loop-i-init
+loop-i-init c = (search rules, refl, c.new-seen.ensures c.args.pool.now)
 
 pub loop-i-preserved : goal.loop-i-preserved
 loop-i-preserved c =
