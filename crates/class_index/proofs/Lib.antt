@@ -1,6 +1,10 @@
 pub mod Built
+pub mod Climbs
 pub mod Declared
+pub mod Declares
+pub mod Inherits
 pub mod Leasts
+pub mod Listings
 pub mod LookupLemmas
 pub mod Outers
 pub mod Parts

@@ -8,9 +8,10 @@ use Rattle.class_index.specs.declared.lookup.Found.{Found}
 use Rattle.class_index.specs.declared.lookup.Choice.{Choice}
 use Rattle.class_index.specs.Lookups.{found_at, super_at, nearest, choice_of, AreSupers, resolved, in_interface, most_specific, first_in, the_one}
 use Rattle.class_index.specs.declared.outline.Outline.{Outline}
-use Rattle.class_index.specs.declared.members.Wanted.TheVariants.{Any}
+use Rattle.class_index.specs.declared.members.Wanted.TheVariants.{Any, Overriding}
 use Rattle.class_index.specs.Members.{wanted_method}
 use Rattle.class_index.specs.Added.{added}
+use Rattle.class_index.specs.Selection.{if_concrete, the_only, overriding}
 use Rattle.class_index.proofs.Pushes.{filter_map_more}
 
 pub nearest_found : (find : ℕ → Option Method) (supers : List (Option ℕ)) (n place : ℕ) (m : Method) → 0 < n → find place ≡ Some m → nearest find supers n place ≡ Some (found_at place m)
@@ -67,3 +68,14 @@ pub resolved_above : (own : ℕ) (all : List Outline) (supers : List (Option ℕ
     → r ≡ resolved own all supers above name descriptor place
 unfolding resolved
 resolved_above own all supers above name descriptor place others r e f g = rw (← e, ← f) g
+
+pub overriding_nearest : (own : ℕ) (all : List Outline) (supers : List (Option ℕ)) (above : ℕ → List ℕ) (name descriptor : List ℕ) (place : ℕ) (found : Found)
+    → Some found ≡ nearest (wanted_method own all name descriptor Overriding) supers (length all) place → if_concrete own found ≡ overriding own all supers above name descriptor place
+unfolding overriding
+overriding_nearest own all supers above name descriptor place found e = rw (← e) refl
+
+pub overriding_above : (own : ℕ) (all : List Outline) (supers : List (Option ℕ)) (above : ℕ → List ℕ) (name descriptor : List ℕ) (place : ℕ) (others : List ℕ)
+    → None ≡ nearest (wanted_method own all name descriptor Overriding) supers (length all) place → others ≡ above place
+    → the_only own (most_specific (in_interface own all name descriptor) above others) ≡ overriding own all supers above name descriptor place
+unfolding overriding
+overriding_above own all supers above name descriptor place others e f = rw (← e, ← f) refl

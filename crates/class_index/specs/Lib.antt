@@ -1,12 +1,15 @@
 pub mod Added
+pub mod Declarations
 pub mod Faults
 pub mod Hierarchy
 pub mod Indexed
+pub mod Inherited
 pub mod Least
 pub mod Lookups
 pub mod Members
 pub mod Outlines
 pub mod Places
 pub mod Resolution
+pub mod Selection
 pub mod Subtyping
 pub mod Supers

@@ -1,8 +1,13 @@
-//! What holds of subtyping.
+//! What holds of subtyping, resolution and selection.
 
-ghost use Rattle.std.specs.Prelude.{List};
+ghost use Rattle.std.specs.Prelude.{◌≡◌, ℕ, List, Some};
 ghost use Rattle.class_model.specs.declared.identifiers.ClassId.{ClassId};
+ghost use Rattle.class_model.specs.declared.identifiers.MemberId.{MemberId};
 ghost use Rattle.class_index.specs.declared.outline.Outline.{Outline};
+ghost use Rattle.class_index.specs.declared.select.Selected.TheVariants as selected;
+ghost use Rattle.class_index.specs.Inherited.{IsInheritedField, IsInheritedMethod, IsSelection};
+ghost use Rattle.class_index.specs.Resolution.{resolve_field, resolve_method};
+ghost use Rattle.class_index.specs.Selection.{select};
 ghost use Rattle.class_index.specs.Subtyping.{IsSubtype};
 
 /// Each class is a subtype of itself.
@@ -13,4 +18,22 @@ pub fn subtyping_is_reflexive()
 /// A subtype of a subtype is a subtype.
 pub fn subtyping_is_transitive()
     ensures { (classes : List Outline) (low middle high : ClassId) → IsSubtype classes low middle → IsSubtype classes middle high → IsSubtype classes low high }
+{}
+
+/// A field that is found has the name and descriptor of the reference, and is one of its owner or of one of the owner's
+/// supers or superinterfaces.
+pub fn resolved_fields_are_inherited()
+    ensures { (classes : List Outline) (owner name descriptor : List ℕ) (id : MemberId) → resolve_field classes owner name descriptor ≡ Some id → IsInheritedField classes owner name descriptor id }
+{}
+
+/// A method that is found has the name and descriptor of the reference, and is one of its owner or of one of the
+/// owner's supers or superinterfaces, where an array class has the methods of Object.
+pub fn resolved_methods_are_inherited()
+    ensures { (classes : List Outline) (owner name descriptor : List ℕ) (id : MemberId) → resolve_method classes owner name descriptor ≡ Some id → IsInheritedMethod classes owner name descriptor id }
+{}
+
+/// A method that is selected is the resolved one, which is private, or it has its name and descriptor, is one of the
+/// receiver or of one of the receiver's supers or superinterfaces, and is neither private nor static nor abstract.
+pub fn selected_methods_override()
+    ensures { (classes : List Outline) (resolved id : MemberId) (receiver : ClassId) → select classes resolved receiver ≡ selected.Found id → IsSelection classes resolved receiver id }
 {}

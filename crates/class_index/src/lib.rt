@@ -1,6 +1,6 @@
 //! The hierarchy of a program's classes and the external ones, prepared for questions: names, resolution of fields and
-//! methods, subtyping. It stands on `class_model`, `jvm_tables` and `place_graph`. The layers above make an `Index` of
-//! a program once and ask it; its questions take no memory.
+//! methods, selection, subtyping. It stands on `class_model`, `jvm_tables` and `place_graph`. The layers above make an
+//! `Index` of a program once and ask it; its questions take no memory.
 #![tactic(auto)]
 
 mod fault;
@@ -12,14 +12,19 @@ mod lookup;
 mod members;
 mod outline;
 mod resolve;
+mod select;
 mod subtype;
 
 pub use fault::IndexFault;
 pub use index::Index;
-pub use laws::{subtyping_is_reflexive, subtyping_is_transitive};
+pub use laws::{
+    resolved_fields_are_inherited, resolved_methods_are_inherited, selected_methods_override,
+    subtyping_is_reflexive, subtyping_is_transitive,
+};
 pub use lookup::Found;
 pub use members::{ABSTRACT_AT, Method};
 pub use outline::{MemberOutline, Outline};
+pub use select::Selected;
 
 #[cfg(test)]
 mod tests;

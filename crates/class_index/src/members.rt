@@ -1,14 +1,15 @@
 //! Fields and methods that classes declare.
 
-ghost use Rattle.std.specs.Prelude.{◌≡◌, ◌<◌, ◌^◌, length, option_map, slice_get, option_and_then};
+ghost use Rattle.std.specs.Prelude.{◌≡◌, ◌<◌, ◌^◌, length, option_map, slice_get, option_and_then, Some, IsSome};
 ghost use Rattle.class_model.specs.Shape.{has_flag};
 ghost use Rattle.std.specs.List.{All};
 ghost use Rattle.jvm_tables.specs.Externals.{externals, said, method_said};
 ghost use Rattle.jvm_tables.specs.Natives.{said as native_said};
 ghost use Rattle.class_index.specs.Members.{is_named, member_from, method_of, outer_method, native_method, abstract_method, declared, wanted_method, HasFewMembers, is_abstract_of};
+ghost use Rattle.class_index.specs.Declarations.{own_declaration, outer_declaration, said as view_said};
 
 use crate::outline::{MemberOutline, Outline};
-use jvm_tables::{ExternalMethod, ExternalRow, NativeRow, external_at, native_row};
+use jvm_tables::{ExternalMethod, ExternalRow, NativeRow, external_at, native_at, native_row};
 
 /// A method that a class declares: its place in file order, or the row of a native; and what its flags say.
 #[derive(Clone, Copy, Debug, PartialEq, Eq, Drop)]
@@ -17,6 +18,14 @@ pub struct Method {
     pub is_private: bool,
     pub is_static: bool,
     pub is_abstract: bool,
+}
+
+/// A method as its class declares it.
+#[derive(Clone, Copy, Drop)]
+pub struct MethodView<'a> {
+    pub name: &'a [u8],
+    pub descriptor: &'a [u8],
+    pub method: Method,
 }
 
 /// Which methods are looked for.
@@ -55,18 +64,38 @@ fn has_flag(flags: u16, flag: u16) -> bool
     flags & flag != 0
 }
 
+/// The method of a number and its flags (JVMS 4.6).
+fn method_of(at: u32, flags: u16) -> Method
+    ensures { result ≡ method_of (at, flags) }
+{
+    Method {
+        at,
+        is_private: has_flag(flags, 0x0002),
+        is_static: has_flag(flags, 0x0008),
+        is_abstract: has_flag(flags, 0x0400),
+    }
+}
+
 #[tactic(auto, using(crate::proofs::Declared::member_within))]
 fn own_method(class: &Outline, name: &[u8], descriptor: &[u8]) -> Option<Method>
     requires { HasFewMembers class.now }
     ensures { result ≡ option_map method_of (member_from 0 name.now descriptor.now class.now.methods) }
 {
     let (at, flags) = member_in(class.methods.as_slice(), name, descriptor)?;
-    Some(Method {
-        at: at as u32,
-        is_private: has_flag(flags, 0x0002),
-        is_static: has_flag(flags, 0x0008),
-        is_abstract: has_flag(flags, 0x0400),
-    })
+    Some(method_of(at as u32, flags))
+}
+
+/// The method of a number that a class file declares.
+pub(crate) fn own_view(class: &Outline, at: u32) -> MethodView<'_>
+    requires { IsSome (own_declaration at class.now) }
+    ensures { Some (view_said result) ≡ own_declaration at class.now }
+{
+    let member = &class.methods.as_slice()[at as usize];
+    MethodView {
+        name: member.name.as_slice(),
+        descriptor: member.descriptor.as_slice(),
+        method: method_of(at, member.flags),
+    }
 }
 
 pub(crate) fn native_method(row: &NativeRow) -> Method
@@ -100,16 +129,42 @@ fn outer_method(row: &ExternalRow, name: &[u8], descriptor: &[u8]) -> Option<Met
         Some(found) => Some(native_method(&found)),
         None => {
             if is_abstract_of(row.abstract_method, name, descriptor) {
-                Some(Method {
-                    at: ABSTRACT_AT,
-                    is_private: false,
-                    is_static: false,
-                    is_abstract: true,
-                })
+                Some(abstract_method())
             } else {
                 None
             }
         }
+    }
+}
+
+fn abstract_method() -> Method
+    ensures { result ≡ abstract_method }
+{
+    Method {
+        at: ABSTRACT_AT,
+        is_private: false,
+        is_static: false,
+        is_abstract: true,
+    }
+}
+
+/// The method of a number that the external class of a row has.
+pub(crate) fn outer_view(row: u32, at: u32) -> MethodView<'static>
+    requires { IsSome (option_and_then (outer_declaration at) (slice_get externals row)) }
+    ensures { Some (view_said result) ≡ option_and_then (outer_declaration at) (slice_get externals row) }
+{
+    if let Some(native) = native_at(at) {
+        return MethodView {
+            name: native.name.as_bytes(),
+            descriptor: native.descriptor.as_bytes(),
+            method: native_method(&native),
+        };
+    }
+    let declared = external_at(row).unwrap().abstract_method.unwrap();
+    MethodView {
+        name: declared.name.as_bytes(),
+        descriptor: declared.descriptor.as_bytes(),
+        method: abstract_method(),
     }
 }
 

@@ -24,7 +24,7 @@ fn is_array(name: &[u8]) -> bool
 }
 
 /// The member of a place.
-fn member_of(own: usize, place: u32, at: u32) -> MemberId
+pub(crate) fn member_of(own: usize, place: u32, at: u32) -> MemberId
     ensures { result ≡ member_of own place at }
 {
     if (place as usize) < own {
@@ -41,6 +41,7 @@ fn member_of(own: usize, place: u32, at: u32) -> MemberId
 }
 
 impl Index {
+    ghost use Rattle.class_index.specs.Declarations.{IsMethodId};
     ghost use Rattle.class_index.specs.Resolution.{resolve_field, owner_place, method_through, resolve_method};
     ghost use Rattle.class_index.specs.Hierarchy.{all_of, names, place_of};
 
@@ -159,7 +160,8 @@ impl Index {
     /// The method that a reference resolves to (JVMS 5.4.3.3, for interfaces too). Access is not looked at. Where the
     /// standard lets any superinterface method be chosen, it is the first, depth first, in declared order.
     pub fn resolve_method(&self, reference: &MemberRef) -> Option<MemberId>
-        ensures { result ≡ resolve_method self.now reference.now.owner reference.now.name reference.now.descriptor }
+        ensures value { result ≡ resolve_method self.now reference.now.owner reference.now.name reference.now.descriptor }
+        ensures there { IfSome result (IsMethodId self.now) }
     {
         let place = self.owner_place(&reference.owner)?;
         let found = self.method_through(reference, place)?;
