@@ -1,4 +1,4 @@
-//! Small hierarchies by hand, with the answers that JVMS 5.4.3 and 4.10 give.
+//! Small hierarchies by hand, with the answers that JVMS 5.4.3, 5.4.6 and 4.10 give.
 
 ghost use Rattle.std.specs.Prelude.{IfOk, IsTrue, All};
 ghost use Rattle.class_model.specs.Shape.{Shaped};
@@ -7,6 +7,7 @@ ghost use Rattle.class_index.specs.Members.{HasFewMembers};
 use crate::fault::IndexFault;
 use crate::index::{Index, add_external, indexed};
 use crate::outline::{MemberOutline, Outline};
+use crate::select::Selected;
 use class_model::{Class, ClassId, Constant, MemberId, MemberRef, Name, Pool, Program};
 use sqlite_items::Items;
 use std::alloc::{AllocError, Global};
@@ -25,7 +26,9 @@ type Row = (
 
 const OBJECT: &str = "java/lang/Object";
 
-static ROWS: [Row; 13] = [
+const RUNNABLE: &str = "java/lang/Runnable";
+
+static ROWS: [Row; 22] = [
     ("I", OBJECT, &[], 0x0600, &[("m", 0x0001)], &["x"]),
     ("J", OBJECT, &["I"], 0x0600, &[("m", 0x0001)], &[]),
     ("K", OBJECT, &["Absent"], 0x0600, &[("m", 0x0001)], &["x"]),
@@ -46,6 +49,15 @@ static ROWS: [Row; 13] = [
     ),
     ("G", OBJECT, &["S"], 0, &[], &["x"]),
     ("H", "G", &["J"], 0, &[], &[]),
+    ("M", OBJECT, &[], 0x0400, &[("m", 0x0401)], &[]),
+    ("N", "M", &["J"], 0x0400, &[], &[]),
+    ("P", "C", &[], 0, &[("m", 0x0001)], &[]),
+    ("Q", "P", &[], 0, &[("m", 0x0002)], &[]),
+    ("R", "Q", &[], 0, &[], &[]),
+    ("T", OBJECT, &["I"], 0, &[("m", 0x0009)], &[]),
+    ("U", OBJECT, &[RUNNABLE], 0, &[("run", 0x0001)], &[]),
+    ("V", OBJECT, &[RUNNABLE], 0x0400, &[], &[]),
+    ("W", "A", &["L"], 0, &[], &[]),
 ];
 
 /// Owner, name and descriptor, and the class and number of what is found.
@@ -107,6 +119,67 @@ static FIELDS: [Query; 6] = [
     ("D", "x", "I", Some((ClassId::Own(2), 0))),
     ("E", "y", "I", None),
     ("F", "x", "I", None),
+];
+
+/// Owner, name and descriptor of a reference, the place of the receiver's class, and what is selected.
+type Selection = (&'static str, &'static str, &'static str, u32, Selected);
+
+// The method of a class, by its number.
+macro_rules! found {
+    ($class:expr, $at:expr) => {
+        Selected::Found(MemberId {
+            class: $class,
+            at: $at,
+        })
+    };
+}
+
+static SELECTIONS: [Selection; 21] = [
+    // The more specific default of a diamond.
+    ("I", "m", "()V", 4, found!(ClassId::Own(1), 0)),
+    // Two defaults, of which neither is more specific.
+    ("I", "m", "()V", 5, Selected::Tie),
+    // The abstract redeclaration alone is maximally specific.
+    ("I", "m", "()V", 8, Selected::Abstract),
+    ("L", "m", "()V", 8, Selected::Abstract),
+    // Of an abstract and a default method that are maximally specific, the default one.
+    ("I", "m", "()V", 21, found!(ClassId::Own(1), 0)),
+    ("L", "m", "()V", 21, found!(ClassId::Own(1), 0)),
+    // A private method overrides nothing, so the superclass's interfaces give the default.
+    ("I", "m", "()V", 6, found!(ClassId::Own(1), 0)),
+    // The class's own interface and those of its superclass.
+    ("I", "m", "()V", 7, Selected::Tie),
+    // A private method is selected itself, also where a subclass has one that isn't private.
+    ("C", "m", "()V", 7, found!(ClassId::Own(6), 1)),
+    ("C", "m", "()V", 15, found!(ClassId::Own(6), 1)),
+    // A class before the interfaces; a private method in between.
+    ("I", "m", "()V", 15, found!(ClassId::Own(15), 0)),
+    ("I", "m", "()V", 16, found!(ClassId::Own(15), 0)),
+    ("P", "m", "()V", 17, found!(ClassId::Own(15), 0)),
+    // An abstract method of a superclass before a default of an interface.
+    ("J", "m", "()V", 14, Selected::Abstract),
+    // A static method overrides nothing.
+    ("I", "m", "()V", 18, found!(ClassId::Own(0), 0)),
+    ("S", "m", "()V", 11, Selected::Abstract),
+    // Methods of external classes.
+    (
+        OBJECT,
+        "toString",
+        "()Ljava/lang/String;",
+        9,
+        found!(ClassId::Outer(33), 104),
+    ),
+    (
+        OBJECT,
+        "toString",
+        "()Ljava/lang/String;",
+        4,
+        found!(ClassId::Outer(31), 1),
+    ),
+    (RUNNABLE, "run", "()V", 19, found!(ClassId::Own(19), 0)),
+    (RUNNABLE, "run", "()V", 20, Selected::Abstract),
+    // A reference through an array class leads to Object.
+    ("[LA;", "hashCode", "()I", 4, found!(ClassId::Outer(31), 2)),
 ];
 
 /// Places of classes, and whether the first is a subtype of the second.
@@ -222,11 +295,16 @@ fn index_of_rows(alloc: Global) -> Result<Index, Fail> {
     index_of(alloc, classes_of_rows(alloc)?)
 }
 
-fn reference(alloc: Global, query: &Query) -> Result<MemberRef, AllocError> {
+fn reference(
+    alloc: Global,
+    owner: &str,
+    member: &str,
+    descriptor: &str,
+) -> Result<MemberRef, AllocError> {
     Ok(MemberRef {
-        owner: name(alloc, query.0)?,
-        name: name(alloc, query.1)?,
-        descriptor: name(alloc, query.2)?,
+        owner: name(alloc, owner)?,
+        name: name(alloc, member)?,
+        descriptor: name(alloc, descriptor)?,
     })
 }
 
@@ -243,7 +321,7 @@ fn check_method(
     index: &Index,
     query: &Query,
 ) -> Result<(), AllocError> {
-    let found = index.resolve_method(&reference(alloc, query)?);
+    let found = index.resolve_method(&reference(alloc, query.0, query.1, query.2)?);
     let wanted = wanted(query);
     assert!(rt; found == wanted);
     Ok(())
@@ -255,7 +333,7 @@ fn check_field(
     index: &Index,
     query: &Query,
 ) -> Result<(), AllocError> {
-    let found = index.resolve_field(&reference(alloc, query)?);
+    let found = index.resolve_field(&reference(alloc, query.0, query.1, query.2)?);
     let wanted = wanted(query);
     assert!(rt; found == wanted);
     Ok(())
@@ -269,6 +347,24 @@ fn check_subtype(rt: &impl Abort, index: &Index, row: &(u32, u32, bool)) {
         let found = index.is_subtype(ClassId::Own(low), ClassId::Own(high));
         assert!(rt; found == wanted);
     }
+}
+
+fn check_selection(
+    rt: &impl Abort,
+    alloc: Global,
+    index: &Index,
+    case: &Selection,
+) -> Result<(), AllocError> {
+    let (owner, name, descriptor, receiver, wanted) = *case;
+    let resolved = index.resolve_method(&reference(alloc, owner, name, descriptor)?);
+    assert!(rt; resolved.is_some() && (receiver as usize) < index.own());
+    if let Some(resolved) = resolved {
+        if (receiver as usize) < index.own() {
+            let selected = index.select(resolved, ClassId::Own(receiver));
+            assert!(rt; selected == wanted);
+        }
+    }
+    Ok(())
 }
 
 #[test]
@@ -287,6 +383,16 @@ fn fields_are_resolved(rt: HostRuntime) -> Result<(), Fail> {
     let index = index_of_rows(alloc)?;
     for query in &FIELDS {
         check_field(&rt, alloc, &index, query)?;
+    }
+    Ok(())
+}
+
+#[test]
+fn methods_are_selected(rt: HostRuntime) -> Result<(), Fail> {
+    let alloc = rt.alloc();
+    let index = index_of_rows(alloc)?;
+    for case in &SELECTIONS {
+        check_selection(&rt, alloc, &index, case)?;
     }
     Ok(())
 }
