@@ -6,6 +6,7 @@ pub mod Inherits
 pub mod Leasts
 pub mod Listings
 pub mod LookupLemmas
+pub mod Named
 pub mod Outers
 pub mod Parts
 pub mod PlaceLemmas

@@ -1,9 +1,10 @@
 -- What of a class its hierarchy is made of.
-use Rattle.std.specs.Prelude.{ℕ, [], map, filter_map, if◌then◌else◌}
+use Rattle.std.specs.Prelude.{ℕ, [], All, IfSome, map, filter_map, if◌then◌else◌}
 use Rattle.class_model.specs.declared.class_file.Class.{Class}
 use Rattle.class_model.specs.declared.class_file.Member.{Member}
 use Rattle.class_model.specs.declared.constant_pool.Pool.{Pool}
 use Rattle.class_model.specs.Constants.{class_at}
+use Rattle.class_model.specs.ModifiedUtf8.{IsName}
 use Rattle.class_model.specs.Shape.{class_name, name_text, descriptor_text}
 use Rattle.jvm_tables.specs.Externals.{External}
 use Rattle.class_index.specs.declared.outline.Outline.{Outline}
@@ -38,3 +39,9 @@ outer_outline row =
       fields = [];
       methods = [];
     }
+
+-- the names in an external class's row are names
+pub record HasNames (row : External) : Type 0 where
+  pub class : IsName row.class
+  pub super_class : IfSome row.super_class IsName
+  pub interfaces : All IsName row.interfaces

@@ -1,10 +1,11 @@
 //! The index of a program.
 
-ghost use Rattle.std.specs.Prelude.{◌≡◌, ℕ, ◌≤◌, true, List, [], ◌++◌, ◌<◌, ◌^◌, IfOk, IfErr, OnOk, length, map, take, option_map, slice_get};
+ghost use Rattle.std.specs.Prelude.{◌≡◌, ℕ, ◌≤◌, All, true, List, [], ◌++◌, ◌<◌, ◌^◌, IfOk, IfErr, OnOk, length, map, take, option_map, slice_get};
 ghost use Rattle.std.specs.Option.{option_to_list};
 ghost use Rattle.std.specs.BTreeMap.{get};
 ghost use Rattle.std.specs.Cmp.Lexicographic.{slice_cmp};
 ghost use Rattle.std.specs.Ordering.{nat_cmp};
+ghost use Rattle.class_model.specs.Shape.{Shaped};
 ghost use Rattle.jvm_tables.specs.Externals.{externals};
 ghost use Rattle.place_graph.specs.Searches.{AreReturning, is_marked};
 ghost use Rattle.class_index.specs.Outlines.{outline, outer_outline};
@@ -28,6 +29,7 @@ use std::marker::Model;
 
 /// The outlines of a program's classes, and behind them those of the external classes.
 fn all_outlines(alloc: Global, classes: &[Class]) -> Result<Items<Outline>, AllocError>
+    requires { All Shaped classes.now }
     ensures { IfOk result (λ all. all ≡ all_of (map outline classes.now)) }
 {
     let mut all = Items::new(alloc);

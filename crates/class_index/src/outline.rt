@@ -1,8 +1,11 @@
 //! What of a class its hierarchy is made of.
 
-ghost use Rattle.std.specs.Prelude.{◌≡◌, ℕ, [], IfOk, map, filter_map, unwrap_or, option_map};
-ghost use Rattle.class_model.specs.Constants.{text_at, class_at};
-ghost use Rattle.class_index.specs.Outlines.{member_outline, outline, outer_outline};
+ghost use Rattle.std.specs.Prelude.{◌≡◌, ℕ, [], All, IfOk, map, filter_map, unwrap_or, option_map};
+ghost use Rattle.std.specs.Option.{ForSome};
+ghost use Rattle.class_model.specs.Constants.{text_at, class_at, IsPool};
+ghost use Rattle.class_model.specs.ModifiedUtf8.{IsName};
+ghost use Rattle.class_model.specs.Shape.{Shaped};
+ghost use Rattle.class_index.specs.Outlines.{member_outline, outline, outer_outline, HasNames};
 ghost use Rattle.jvm_tables.specs.Externals.{said};
 
 use crate::lists::push_some;
@@ -29,16 +32,6 @@ pub struct Outline {
     /// In file order, as the methods.
     pub fields: Items<MemberOutline>,
     pub methods: Items<MemberOutline>,
-}
-
-/// A text that is a name. The names of shaped classes and of external classes are.
-fn name_of(alloc: Global, text: &[u8]) -> Result<Name, AllocError>
-    ensures { IfOk result (λ name. name ≡ text.now) }
-{
-    match Name::of(alloc, text) {
-        Ok(name) => Ok(name),
-        Err(_) => Err(AllocError),
-    }
 }
 
 fn text_of(pool: &Pool, number: u16) -> &[u8]
@@ -81,16 +74,18 @@ fn member_outlines(
 }
 
 fn class_name_of(alloc: Global, pool: &Pool, number: u16) -> Result<Option<Name>, AllocError>
+    requires { IsPool pool.now }
     ensures { IfOk result (λ found. found ≡ class_at pool.now number) }
 {
     match pool.class_name(number) {
-        Some(text) => Ok(Some(name_of(alloc, text)?)),
+        Some(text) => Ok(Some(Name::of_valid(alloc, text)?)),
         None => Ok(None),
     }
 }
 
 #[tactic(auto, using(crate::proofs::Pushes::class_more))]
 fn class_names(alloc: Global, pool: &Pool, numbers: &[u16]) -> Result<Items<Name>, AllocError>
+    requires { IsPool pool.now }
     ensures { IfOk result (λ found. found ≡ filter_map (class_at pool.now) numbers.now) }
 {
     let mut names = Items::new(alloc);
@@ -102,9 +97,10 @@ fn class_names(alloc: Global, pool: &Pool, numbers: &[u16]) -> Result<Items<Name
 }
 
 pub(crate) fn outline_of(alloc: Global, class: &Class) -> Result<Outline, AllocError>
+    requires { Shaped class.now }
     ensures { IfOk result (λ found. found ≡ outline class.now) }
 {
-    let name = name_of(alloc, class.name())?;
+    let name = Name::of_valid(alloc, class.name())?;
     let super_class = class_name_of(alloc, &class.pool, class.super_class)?;
     let interfaces = class_names(alloc, &class.pool, class.interfaces.as_slice())?;
     let fields = member_outlines(alloc, &class.pool, class.fields.as_slice())?;
@@ -120,29 +116,32 @@ pub(crate) fn outline_of(alloc: Global, class: &Class) -> Result<Outline, AllocE
 }
 
 fn given_names(alloc: Global, texts: &[&'static str]) -> Result<Items<Name>, AllocError>
+    requires { All IsName (map (λ t. t.now) texts.now) }
     ensures { IfOk result (λ found. found ≡ map (λ t. t.now) texts.now) }
 {
     let mut names = Items::new(alloc);
     for text in texts {
-        names.push(name_of(alloc, text.as_bytes())?)?;
+        names.push(Name::of_valid(alloc, text.as_bytes())?)?;
     }
     Ok(names)
 }
 
 fn given_name(alloc: Global, text: Option<&'static str>) -> Result<Option<Name>, AllocError>
+    requires { ForSome text (λ t. IsName t.now) }
     ensures { IfOk result (λ found. found ≡ option_map (λ t. t.now) text.entry) }
 {
     match text {
-        Some(text) => Ok(Some(name_of(alloc, text.as_bytes())?)),
+        Some(text) => Ok(Some(Name::of_valid(alloc, text.as_bytes())?)),
         None => Ok(None),
     }
 }
 
 /// The outline of an external class. Its members are natives and stand in their own table.
 pub(crate) fn outer_outline_of(alloc: Global, row: &ExternalRow) -> Result<Outline, AllocError>
+    requires { HasNames (said row.now).1 }
     ensures { IfOk result (λ found. found ≡ outer_outline (said row.now).1) }
 {
-    let name = name_of(alloc, row.class.as_bytes())?;
+    let name = Name::of_valid(alloc, row.class.as_bytes())?;
     let super_class = given_name(alloc, row.super_class)?;
     let interfaces = given_names(alloc, row.interfaces)?;
     let flags = if row.is_interface { 0x0200 } else { 0 };
