@@ -26,7 +26,7 @@ use Rattle.class_index.specs.Declarations.{Declaration, declaration, method_at, 
 use Rattle.class_index.specs.Selection.{the_only, or_only, overriding, select}
 use Rattle.class_index.specs.Inherited.{IsAtOrAbove, method_owner, IsInheritedField, IsInheritedMethod, IsOverride, IsSelection}
 use Rattle.class_index.proofs.Listings.{mapped, chained, member_at, external_at, position_at}
-use Rattle.class_index.proofs.Declares.{back_of, no_fields, front_of, declared_is, array_native_is}
+use Rattle.class_index.proofs.DeclarationLemmas.{back_of, no_fields, front_of, declared_is, array_native_is}
 use Rattle.class_index.proofs.Climbs.{IsUp, CanOverride, nearest_at, overriding_is, interface_is, specific_at, resolved_is}
 use Rattle.class_index.proofs.PlaceLemmas.{place_within}
 use Rattle.class_index.proofs.Questions.{length-all_of}

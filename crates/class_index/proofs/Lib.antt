@@ -1,7 +1,6 @@
 pub mod Built
 pub mod Climbs
-pub mod Declared
-pub mod Declares
+pub mod DeclarationLemmas
 pub mod Inherits
 pub mod Leasts
 pub mod Listings

@@ -3,7 +3,7 @@ use Rattle.std.proofs.Common.{◌≡◌, ℕ, zero, suc, ◌+◌, ◌<◌, List,
 use Rattle.std.specs.Str.{bytes_eq}
 use Rattle.std.specs.List.{filter_map, position_from}
 use Rattle.std.proofs.lemmas.Bool.{cases_Bool, and_parts, or_left, or_right, eq-eqb}
-use Rattle.std.proofs.lemmas.Option.{some_pair_parts}
+use Rattle.std.proofs.lemmas.Option.{slice_get_within, some_pair_parts}
 use Rattle.std.proofs.lemmas.Slice.Eq.{bytes_eq-Decides}
 use Rattle.jvm_tables.specs.Externals.{External, external_from}
 use Rattle.jvm_tables.specs.Natives.{Native, is_native, native_from, stands_on}
@@ -42,6 +42,12 @@ member_at from name descriptor (m ∷ members) at flags e = elim (cases_Bool (is
       let next = member_at (from + 1) name descriptor members at flags (e ∙ rw f refl) in
       (suc next.0, omega (arith, next.1), next.2, next.3, next.4, next.5, next.6)
 ]
+
+-- a member that is found has its place in the list
+pub member_within : (from : ℕ) (name descriptor : List ℕ) (members : List MemberOutline) (at flags : ℕ) → Some (at, flags) ≡ member_from from name descriptor members → at < from + length members
+member_within from name descriptor members at flags e =
+    let m = member_at from name descriptor members at flags e in
+    omega (arith, m.1, slice_get_within members m.0 m.2 m.3)
 
 pub native_at : (from : ℕ) (class name descriptor : List ℕ) (rows : List Native) (at : ℕ) (row : Native) → Some (at, row) ≡ native_from from class name descriptor rows
     → (k : ℕ) × (at ≡ from + k) × (slice_get rows k ≡ Some row) × (row.name ≡ name) × (row.descriptor ≡ descriptor) × (stands_on row.class row.family class ≡ true)

@@ -250,7 +250,7 @@ fn in_superinterfaces(
 }
 
 /// The field of a name and descriptor that the class at a place declares.
-#[tactic(auto, using(crate::proofs::Declared::member_within))]
+#[tactic(auto, using(crate::proofs::Listings::member_within))]
 pub(crate) fn field_at(all: &[Outline], name: &[u8], descriptor: &[u8], place: usize) -> Option<u32>
     requires members { All HasFewMembers all.now }
     requires place { place < length all.now }
@@ -259,7 +259,7 @@ pub(crate) fn field_at(all: &[Outline], name: &[u8], descriptor: &[u8], place: u
     field_in(&all[place], name, descriptor)
 }
 
-#[tactic(auto, using(crate::proofs::Declared::member_within))]
+#[tactic(auto, using(crate::proofs::Listings::member_within))]
 fn field_in(class: &Outline, name: &[u8], descriptor: &[u8]) -> Option<u32>
     requires { HasFewMembers class.now }
     ensures { result ≡ option_map (λ f. f.0) (member_from 0 name.now descriptor.now class.now.fields) }

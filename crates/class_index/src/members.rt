@@ -76,7 +76,7 @@ fn method_of(at: u32, flags: u16) -> Method
     }
 }
 
-#[tactic(auto, using(crate::proofs::Declared::member_within))]
+#[tactic(auto, using(crate::proofs::Listings::member_within))]
 fn own_method(class: &Outline, name: &[u8], descriptor: &[u8]) -> Option<Method>
     requires { HasFewMembers class.now }
     ensures { result ≡ option_map method_of (member_from 0 name.now descriptor.now class.now.methods) }

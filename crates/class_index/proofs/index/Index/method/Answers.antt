@@ -2,7 +2,7 @@ use Rattle.std.proofs.Common.{◌≡◌, List, get_or, Option, IsSome, sym, ◌�
 use Rattle.class_index.specs.declared.outline.Outline.{Outline}
 use Rattle.class_index.specs.Hierarchy.{all_of}
 use Rattle.class_index.specs.Declarations.{Declaration}
-use Rattle.class_index.proofs.Declares.{own_within, own_read}
+use Rattle.class_index.proofs.DeclarationLemmas.{own_within, own_read}
 use Rattle.class_index.proofs.index.Index.method.Goals as goal
 
 pub bounds-outlines-class : goal.bounds-outlines-class
