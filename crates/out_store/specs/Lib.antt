@@ -3,6 +3,7 @@ pub mod Faults
 pub mod Generations
 pub mod Names
 pub mod Numbers
+pub mod Opened
 pub mod Opening
 pub mod Publishing
 pub mod Standing
