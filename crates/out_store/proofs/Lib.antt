@@ -3,7 +3,9 @@ pub mod CleanLaws
 pub mod Cuts
 pub mod FileLaws
 pub mod NameLaws
+pub mod NamesBelow
 pub mod NumberLaws
+pub mod OpenedLaws
 pub mod OpeningLaws
 pub mod OpeningStands
 pub mod PublishLaws

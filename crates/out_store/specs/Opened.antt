@@ -1,5 +1,5 @@
 -- What is kept of the store as it is opened: the entries that read, without their values.
-use Rattle.std.specs.Prelude.{◌≡◌, ℕ, List, ◌++◌, map, Option, None, Some, Contains}
+use Rattle.std.specs.Prelude.{◌≡◌, ℕ, List, ◌++◌, map, Contains}
 use Rattle.io_traits.specs.Files.{Files, IsInOrder}
 use Rattle.out_entry.specs.declared.entry.Entry.{Entry}
 use Rattle.out_entry.specs.declared.entry.Kept.{Kept}
@@ -31,11 +31,6 @@ pub record AreBelow (folder : List ℕ) (listed below : List (List ℕ)) : Type 
   pub each : (name : List ℕ) → Contains below name → Contains listed name × ((path : List ℕ) × (name ≡ folder ++ path))
   pub every : (path : List ℕ) → Contains listed (folder ++ path) → Contains below (folder ++ path)
   pub rising : IsInOrder below
-
--- what is kept of the entry that has this name: nothing where none reads under it
-abbrev pub IsKeptUnder : Files → List ℕ → Option Kept → Type 0
-IsKeptUnder files name None = (task : List ℕ) (entry : Entry) → Reads files task entry → entry_name task ≡ name → ⊥
-IsKeptUnder files name (Some kept) = (entry_name kept.task ≡ name) × ((entry : Entry) × Reads files kept.task entry × IsKeptOf files entry kept)
 
 -- what is kept of the entries that have one of these names
 pub record AreKeptUnder (files : Files) (seen : List (List ℕ)) (kept : List Kept) : Type 0 where

@@ -1,6 +1,6 @@
 //! The names of a task's files among the results, and what a name is of.
 
-ghost use Rattle.std.specs.Prelude.{◌≡◌, ◌↔◌, ◌^◌, ◌<◌, ◌≤◌, ◌++◌, ◌∷◌, ℕ, List, map, if◌then◌else◌, ◌==◌, length, codes, IfOk, IfSome, MatchOption, IsTrue, Some, None};
+ghost use Rattle.std.specs.Prelude.{◌≡◌, ◌↔◌, ◌^◌, ◌<◌, ◌≤◌, ◌++◌, ◌∷◌, [], ℕ, List, map, if◌then◌else◌, ◌==◌, length, codes, IfOk, IfSome, MatchOption, IsTrue, Some, None};
 ghost use Rattle.std.specs.Fmt.{decimal};
 ghost use Rattle.out_store.specs.Names.{is_word_byte, IsTaskPart, IsTaskName, IsNumber, IsOf, IsCut, Lacks, entry_name, log_name, generation_name, in_generation};
 ghost use Rattle.value_text.specs.Texts.{slashed};
@@ -69,7 +69,6 @@ fn file_name(alloc: Global, task: &Text, ending: &[u8]) -> Result<Path, AllocErr
 }
 
 /// The name of the task's entry.
-
 pub(crate) fn entry_name(alloc: Global, task: &Text) -> Result<Path, AllocError>
     requires { IsTaskName task.now }
     ensures { IfOk result (λ name. name ≡ entry_name task.now) }
@@ -78,7 +77,6 @@ pub(crate) fn entry_name(alloc: Global, task: &Text) -> Result<Path, AllocError>
 }
 
 /// The name of the task's log.
-
 pub(crate) fn log_name(alloc: Global, task: &Text) -> Result<Path, AllocError>
     requires { IsTaskName task.now }
     ensures { IfOk result (λ name. name ≡ log_name task.now) }
@@ -87,14 +85,27 @@ pub(crate) fn log_name(alloc: Global, task: &Text) -> Result<Path, AllocError>
 }
 
 // What stands behind the task's folder in the name of a file of a generation.
-fn generation_ending(alloc: Global, number: u32, path: &Path) -> Result<Vec<u8>, AllocError>
+fn generation_ending(alloc: Global, number: u32, path: &[u8]) -> Result<Vec<u8>, AllocError>
     ensures { IfOk result (λ ending. ending.items ≡ codes ".dest/g" ++ decimal number ++ 47 ∷ path.now) }
 {
     let mut ending = Vec::from_slice(alloc, b".dest/g")?;
     ending.extend_from_slice(number.to_string(alloc)?.as_bytes())?;
     ending.push(b'/')?;
-    ending.extend_from_slice(path.as_slice())?;
+    ending.extend_from_slice(path)?;
     Ok(ending)
+}
+
+/// What the names of all files of a generation of the task begin with.
+pub(crate) fn generation_folder(
+    alloc: Global,
+    task: &Text,
+    number: u32,
+) -> Result<Vec<u8>, AllocError>
+    ensures { IfOk result (λ folder. folder.items ≡ generation_name task.now number []) }
+{
+    let mut folder = exchange(alloc, task.as_slice(), b'.', b'/')?;
+    folder.extend_from_slice(&generation_ending(alloc, number, b"")?)?;
+    Ok(folder)
 }
 
 // A path is such where it is written.
@@ -105,7 +116,6 @@ fn prove_path(path: &Path)
 }
 
 /// The name of a file of a generation of the task.
-
 pub(crate) fn generation_name(
     alloc: Global,
     task: &Text,
@@ -119,7 +129,7 @@ pub(crate) fn generation_name(
     ensures { IfOk result (λ name. name ≡ generation_name task.now number path.now) }
 {
     prove_path(path);
-    let ending = generation_ending(alloc, number, path)?;
+    let ending = generation_ending(alloc, number, path.as_slice())?;
     file_name(alloc, task, ending.as_slice())
 }
 

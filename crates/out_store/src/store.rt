@@ -8,6 +8,7 @@ ghost use Rattle.out_store.specs.Generations.{IsFound};
 ghost use Rattle.out_store.specs.Names.{IsTaskName, entry_name, log_name};
 ghost use Rattle.out_store.specs.Numbers.{IsNext, Takes, KnowsIn};
 ghost use Rattle.io_traits.specs.Causes.{Rose};
+ghost use Rattle.out_store.specs.Opened.{AreKept};
 ghost use Rattle.out_store.specs.Opening.{IsOpened, LeftByOpening, PublishedStay};
 ghost use Rattle.out_store.specs.Publishing.{puts_of, LeftByPublish, IsPut};
 ghost use Rattle.out_store.specs.Standing.{Row, StandsIn, row_of};
@@ -16,20 +17,21 @@ use crate::fault::OutFault;
 use crate::finished::Finished;
 use crate::names::{entry_name, log_name};
 use crate::numbers::Numbers;
-use crate::opening::open;
+use crate::opening::{Found, open};
 use crate::putting::put_next;
 use crate::reading::look;
 use crate::removing::remove_two;
 use io_traits::Store;
-use out_entry::Entry;
+use out_entry::{Entry, Kept};
 use std::alloc::Global;
-use tree_value::Text;
+use tree_value::{Sequence, Text};
 
 /// The results of tasks in a store, which is changed by this alone.
 #[derive(Drop)]
 pub struct Out<S> {
     store: S,
     numbers: Numbers,
+    opening: Sequence<Kept>,
     alloc: Global,
 }
 
@@ -37,6 +39,8 @@ impl<S: Store> Out<S> {
     /// Opens the store: lists it, reads all entries, and takes away the generations that none of them publishes.
     pub fn start(alloc: Global, store: S) -> Result<Out<S>, (S, OutFault)>
         ensures ok { IfOk result (λ out. IsOpened (S.content store) (S.content out.store) out.numbers) }
+        ensures opening { IfOk result (λ out. IfSome (S.content store) (λ files. AreKept files out.opening)) }
+        ensures opening_still { IfOk result (λ out. IfSome (S.content out.store) (λ files. AreKept files out.opening)) }
         ensures err { IfErr result (λ refused. LeftByOpening (S.content store) (S.content refused.0)) }
         ensures others { MatchResult result (λ out. PublishedStay (S.content store) (S.content out.store)) (λ refused. PublishedStay (S.content store) (S.content refused.0)) }
         ensures knows { IfOk result (λ out. IsSome (S.content store) → KnowsIn (S.content out.store) out.numbers) }
@@ -48,11 +52,15 @@ impl<S: Store> Out<S> {
     {
         let mut store = store;
         match open(alloc, &mut store) {
-            Ok(numbers) => Ok(Out {
-                store,
-                numbers,
-                alloc,
-            }),
+            Ok(found) => {
+                let Found { numbers, entries } = found;
+                Ok(Out {
+                    store,
+                    numbers,
+                    opening: entries,
+                    alloc,
+                })
+            }
             Err(fault) => Err((store, fault)),
         }
     }
@@ -63,6 +71,7 @@ impl<S: Store> Out<S> {
         ensures found { IfOk result (λ found. IfSome (S.content self.old.store) (λ files. IsFound files task.now found)) }
         ensures content { S.content self.new.store ≡ S.content self.old.store }
         ensures numbers { self.new.numbers ≡ self.old.numbers }
+        ensures opening { self.new.opening ≡ self.old.opening }
         ensures cause { HasCause (S.faults self.old.store) (S.faults self.new.store) result }
         ensures kept { S.kept self.new.store ≡ S.kept self.old.store }
     {
@@ -79,6 +88,7 @@ impl<S: Store> Out<S> {
         ensures knows { KnowsIn (S.content self.old.store) self.old.numbers → KnowsIn (S.content self.new.store) self.new.numbers }
         ensures stands { (rows : List Row) (lost : List (List ℕ)) → StandsIn (S.content self.old.store) rows lost → StandsIn (S.content self.new.store) rows lost }
         ensures numbers { self.new.numbers ≡ self.old.numbers }
+        ensures opening { self.new.opening ≡ self.old.opening }
         ensures cause { HasCause (S.faults self.old.store) (S.faults self.new.store) result }
         ensures kept { S.kept self.new.store ≡ S.kept self.old.store }
     {
@@ -94,6 +104,7 @@ impl<S: Store> Out<S> {
         requires files { All IsFileName run.now.dest }
         ensures number { IfOk result (IsNext self.old.numbers run.now.task) }
         ensures taken { IfOk result (λ number. Takes self.old.numbers run.now.task number self.new.numbers) }
+        ensures opening { self.new.opening ≡ self.old.opening }
         ensures ok { IfOk result (λ number. S.content self.new.store ≡ puts_in (puts_of run.now number) (S.content self.old.store)) }
         ensures err { OnErr result (LeftByPublish run.now self.old.numbers self.new.numbers (S.content self.old.store) (S.content self.new.store)) }
         ensures others { OthersStay (IsPut run.now self.old.numbers) (S.content self.old.store) (S.content self.new.store) }
@@ -105,6 +116,15 @@ impl<S: Store> Out<S> {
         put_next(self.alloc, &mut self.store, &mut self.numbers, run)
     }
 
+    /// The entries that were readable as the store was opened, without their values, each with the whole names of
+    /// the files of its generation. They stand in byte order of the entries' names, in which `a-b.json` comes before
+    /// `a.json`.
+    pub fn opening(&self) -> &[Kept]
+        ensures { result.now ≡ self.now.opening }
+    {
+        self.opening.as_slice()
+    }
+
     /// The store.
     pub fn end(self) -> S
         ensures { result ≡ self.store }
@@ -112,6 +132,7 @@ impl<S: Store> Out<S> {
         let Out {
             store,
             numbers: _,
+            opening: _,
             alloc: _,
         } = self;
         store

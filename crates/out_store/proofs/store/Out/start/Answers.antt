@@ -1,6 +1,8 @@
 use Rattle.std.proofs.Common.{ℕ, List, Contains}
 use Rattle.io_traits.specs.Files.{Files}
 use Rattle.out_store.specs.Generations.{AreUnpublished, IsUnpublished}
+use Rattle.out_store.specs.Opened.{AreKept}
+use Rattle.out_store.proofs.OpenedLaws.{kept_after}
 use Rattle.out_store.proofs.OpeningLaws.{if_told}
 use Rattle.out_store.proofs.OpeningStands.{opening_stands, opening_others, opened_left, opening_knows, is_opened}
 use Rattle.out_store.proofs.store.Out.start.Goals as goal
@@ -8,7 +10,7 @@ use Rattle.out_store.proofs.store.Out.start.Goals as goal
 pub returns-in-Ok-clause-ok : goal.returns-in-Ok-clause-ok
 returns-in-Ok-clause-ok g c =
     let ok = c.in-Ok.ensures.ok in
-    is_opened (g.S.Store.content c.args.store) (g.S.Store.content c.open.new.store) c.in-Ok.numbers ok.0 ok.1 ok.2 c.in-Ok.ensures.taken
+    is_opened (g.S.Store.content c.args.store) (g.S.Store.content c.open.new.store) c.in-Ok.found.numbers ok.0 ok.1 ok.2 c.in-Ok.ensures.taken
 
 pub returns-in-Ok-clause-others : goal.returns-in-Ok-clause-others
 returns-in-Ok-clause-others g c =
@@ -16,10 +18,18 @@ returns-in-Ok-clause-others g c =
     opening_others (g.S.Store.content c.args.store) (g.S.Store.content c.open.new.store)
     (opened_left (g.S.Store.content c.args.store) (g.S.Store.content c.open.new.store) ok.0 ok.1 (if_told (g.S.Store.content c.args.store) (λ (files : Files). AreUnpublished files ok.0) (λ files told. (ok.2 files told).0)))
 
+pub returns-in-Ok-clause-opening_still : goal.returns-in-Ok-clause-opening_still
+returns-in-Ok-clause-opening_still g c =
+    let ok = c.in-Ok.ensures.ok in
+    kept_after (g.S.Store.content c.args.store) (g.S.Store.content c.open.new.store) ok.0 c.in-Ok.found.entries ok.1
+    (opening_others (g.S.Store.content c.args.store) (g.S.Store.content c.open.new.store)
+    (opened_left (g.S.Store.content c.args.store) (g.S.Store.content c.open.new.store) ok.0 ok.1 (if_told (g.S.Store.content c.args.store) (λ (files : Files). AreUnpublished files ok.0) (λ files told. (ok.2 files told).0))))
+    (if_told (g.S.Store.content c.args.store) (λ (files : Files). AreKept files c.in-Ok.found.entries) c.in-Ok.ensures.entries)
+
 pub returns-in-Ok-clause-knows : goal.returns-in-Ok-clause-knows
 returns-in-Ok-clause-knows g c told =
     let ok = c.in-Ok.ensures.ok in
-    opening_knows (g.S.Store.content c.args.store) (g.S.Store.content c.open.new.store) c.in-Ok.numbers ok.0 told ok.1 ok.2
+    opening_knows (g.S.Store.content c.args.store) (g.S.Store.content c.open.new.store) c.in-Ok.found.numbers ok.0 told ok.1 ok.2
 
 pub returns-in-Ok-clause-stands : goal.returns-in-Ok-clause-stands
 returns-in-Ok-clause-stands g c rows lost stands =
