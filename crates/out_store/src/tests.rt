@@ -1,6 +1,6 @@
 use crate::{Finished, Out, OutFault, is_dest, is_task};
 use io_traits::{Contents, Leaves, MemStore};
-use out_entry::Entry;
+use out_entry::{Entry, Kept};
 use std::alloc::Global;
 use std::test::Fail;
 use tree_value::{Bytes, Digest, Path, Sequence, Text, Tree, Value};
@@ -138,55 +138,114 @@ fn a_call_of_the_store_that_fails_is_a_fault(rt: HostRuntime) -> Result<(), Fail
     Ok(())
 }
 
-// Publishes the run in a store of which one call fails, and opens the store again.
-fn after_publish(alloc: Global, call: u64, leaves: Leaves) -> Result<MemStore, Fail> {
-    let mut out = opened(alloc, store_of(alloc, &[], call, leaves)?)?;
-    let answer = publish(&mut out, &run(alloc)?);
-    if is_fault(answer) != (call <= 5) {
-        return Err("an answer that isn't that of the call")?;
-    }
-    Ok(opened(alloc, out.end())?.end())
+// Whether a call met a fault as the run was published in a store with these files, of which one call fails, and what
+// is there once the store is opened again.
+fn after_publish(
+    alloc: Global,
+    before: &[(&str, &str)],
+    call: u64,
+    leaves: Leaves,
+) -> Result<(bool, MemStore), Fail> {
+    let (fault, store) = match Out::start(alloc, store_of(alloc, before, call, leaves)?) {
+        Ok(opened) => {
+            let mut out = opened;
+            let answer = publish(&mut out, &run(alloc)?);
+            (is_fault(answer), out.end())
+        }
+        Err((store, fault)) => (fault == OutFault::Fault, store),
+    };
+    let left = MemStore::new(alloc, store.contents(), Vec::new(alloc))?;
+    Ok((fault, opened(alloc, left)?.end()))
 }
 
-#[test]
-fn publish_puts_the_files_the_log_and_the_entry(rt: HostRuntime) -> Result<(), Fail> {
-    let store = after_publish(rt.alloc(), 100, Leaves::Old)?;
-    assert!(rt; has(store, &FILES));
-    Ok(())
-}
+// The file of an earlier run of `a` under number 1, and its entry.
+const EARLIER: [(&str, &str); 2] = [("a.dest/g1/x", "0"), ("a.json", FIVE)];
 
-// The call that fails, what it leaves, and how many files stand in the end.
-const FAILING: [(u64, Leaves, usize); 12] = [
-    (2, Leaves::Old, 0),
-    (2, Leaves::New, 0),
-    (2, Leaves::Nothing, 0),
-    (3, Leaves::Old, 0),
-    (3, Leaves::New, 0),
-    (3, Leaves::Nothing, 0),
-    (4, Leaves::Old, 0),
-    (4, Leaves::New, 1),
-    (4, Leaves::Nothing, 0),
-    (5, Leaves::Old, 1),
-    (5, Leaves::New, 4),
-    (5, Leaves::Nothing, 1),
+const EARLIER_AND_LOG: [(&str, &str); 3] = [
+    ("a.dest/g1/x", "0"),
+    ("a.json", FIVE),
+    ("a.log", "hello\n"),
 ];
 
-// The files that stand in the end: none, the log, or all.
-fn leaves_published(alloc: Global, call: u64, leaves: Leaves, count: usize) -> Result<bool, Fail> {
-    let store = after_publish(alloc, call, leaves)?;
-    match count {
-        0 => Ok(has(store, &[])),
-        1 => Ok(has(store, &[("a.log", "hello\n")])),
-        _ => Ok(has(store, &FILES)),
-    }
+const LOG: [(&str, &str); 1] = [("a.log", "hello\n")];
+
+// The entry of the same run under number 2.
+const ENTRY_OF_TWO: &str =
+    "{\"dest\":2,\"files\":[[\"x\",\"6b86b273ff34fce19d6b804eff5a3f5747ada4eaa22f1d49c01e52ddb7875b4b\"],[\"y\",\"d4735e3a265e16eee03f59718b9b5d03019c07d8b6c51f90da3a666eec13ab35\"]],\"input\":\"2a2a2a2a2a2a2a2a2a2a2a2a2a2a2a2a2a2a2a2a2a2a2a2a2a2a2a2a2a2a2a2a\",\"task\":\"a\",\"value\":5,\"version\":1}";
+
+const FILES_OF_TWO: [(&str, &str); 4] = [
+    ("a.dest/g2/x", "1"),
+    ("a.dest/g2/y", "2"),
+    ("a.json", ENTRY_OF_TWO),
+    ("a.log", "hello\n"),
+];
+
+// The call that fails, and what is there in the end where it leaves the old bytes, the new bytes, and nothing. In an
+// empty store the calls list the names, and put `x`, `y`, the log and the entry; no call is the sixth.
+const IN_AN_EMPTY_STORE: [(u64, &[(&str, &str)], &[(&str, &str)], &[(&str, &str)]); 6] = [
+    (1, &[], &[], &[]),
+    (2, &[], &[], &[]),
+    (3, &[], &[], &[]),
+    (4, &[], &LOG, &[]),
+    (5, &LOG, &FILES, &LOG),
+    (6, &FILES, &FILES, &FILES),
+];
+
+// The same over an earlier run, whose entry is read by the second call.
+const OVER_AN_EARLIER_RUN: [(u64, &[(&str, &str)], &[(&str, &str)], &[(&str, &str)]); 7] = [
+    (1, &EARLIER, &EARLIER, &EARLIER),
+    (2, &EARLIER, &EARLIER, &EARLIER),
+    (3, &EARLIER, &EARLIER, &EARLIER),
+    (4, &EARLIER, &EARLIER, &EARLIER),
+    (5, &EARLIER, &EARLIER_AND_LOG, &EARLIER),
+    (6, &EARLIER_AND_LOG, &FILES_OF_TWO, &LOG),
+    (7, &FILES_OF_TWO, &FILES_OF_TWO, &FILES_OF_TWO),
+];
+
+fn leaves_these(
+    alloc: Global,
+    before: &[(&str, &str)],
+    call: u64,
+    leaves: Leaves,
+    last: u64,
+    after: &[(&str, &str)],
+) -> Result<bool, Fail> {
+    let (fault, store) = after_publish(alloc, before, call, leaves)?;
+    Ok(fault == (call <= last) && has(store, after))
 }
 
 #[test]
 fn a_start_after_a_publish_that_failed_leaves_what_is_published(
     rt: HostRuntime,
 ) -> Result<(), Fail> {
-    for (call, leaves, count) in &FAILING {
-        assert!(rt; leaves_published(rt.alloc(), *call, *leaves, *count)?);
+    let alloc = rt.alloc();
+    for (call, old, all, none) in IN_AN_EMPTY_STORE {
+        assert!(rt;
+            leaves_these(alloc, &[], call, Leaves::Old, 5, old)?,
+            "{call} old"
+        );
+        assert!(rt;
+            leaves_these(alloc, &[], call, Leaves::New, 5, all)?,
+            "{call} new"
+        );
+        assert!(rt;
+            leaves_these(alloc, &[], call, Leaves::Nothing, 5, none)?,
+            "{call} nothing"
+        );
+    }
+    for (call, old, all, none) in OVER_AN_EARLIER_RUN {
+        assert!(rt;
+            leaves_these(alloc, &EARLIER, call, Leaves::Old, 6, old)?,
+            "{call} old"
+        );
+        assert!(rt;
+            leaves_these(alloc, &EARLIER, call, Leaves::New, 6, all)?,
+            "{call} new"
+        );
+        assert!(rt;
+            leaves_these(alloc, &EARLIER, call, Leaves::Nothing, 6, none)?,
+            "{call} nothing"
+        );
     }
     Ok(())
 }
@@ -222,32 +281,91 @@ fn a_start_takes_away_unpublished_generations_alone(rt: HostRuntime) -> Result<(
     Ok(())
 }
 
-// The number of a run of `a` where its entry has number 1, and what is left once it is cleaned.
-fn next_and_cleaned(alloc: Global) -> Result<(u32, MemStore), Fail> {
-    let mut out = opened(
-        alloc,
-        store_of(
-            alloc,
-            &[("a.dest/g1/x", "1"), ("a.json", FIVE)],
-            100,
-            Leaves::Old,
-        )?,
-    )?;
-    let number = publish(&mut out, &run(alloc)?)?;
-    clean(&mut out, &task(alloc)?)?;
-    Ok((number, out.end()))
+// An entry of `a-b` under number 1, and one of `a` under number 2 with one file.
+const OF_A_B: &str =
+    "{\"dest\":1,\"files\":[],\"input\":\"2a2a2a2a2a2a2a2a2a2a2a2a2a2a2a2a2a2a2a2a2a2a2a2a2a2a2a2a2a2a2a2a\",\"task\":\"a-b\",\"value\":5,\"version\":1}";
+
+const OF_A: &str =
+    "{\"dest\":2,\"files\":[[\"x\",\"2a2a2a2a2a2a2a2a2a2a2a2a2a2a2a2a2a2a2a2a2a2a2a2a2a2a2a2a2a2a2a2a\"]],\"input\":\"2a2a2a2a2a2a2a2a2a2a2a2a2a2a2a2a2a2a2a2a2a2a2a2a2a2a2a2a2a2a2a2a\",\"task\":\"a\",\"value\":5,\"version\":1}";
+
+// The bytes under `b.json` are no entry's, and those under `c.json` are an entry of another task.
+const TO_BE_KEPT: [(&str, &str); 9] = [
+    ("a-b.json", OF_A_B),
+    ("a.dest/g1/x", "1"),
+    ("a.dest/g2/x", "1"),
+    ("a.dest/g2/y/z", "1"),
+    ("a.dest/g20/x", "1"),
+    ("a.json", OF_A),
+    ("b.dest/g1/x", "1"),
+    ("b.json", "{}"),
+    ("c.json", OF_A),
+];
+
+fn is_kept(kept: &Kept, task: &str, generation: u32, files: usize, names: &[&str]) -> bool {
+    let found = kept.names.as_slice();
+    kept.task.as_slice() == task.as_bytes()
+        && kept.generation == generation
+        && kept.input.as_slice() == [42; 32].as_slice()
+        && kept.files.len() == files
+        && found.len() == names.len()
+        && found
+            .iter()
+            .zip(names)
+            .all(|(name, wanted)| name.as_slice() == wanted.as_bytes())
+}
+
+fn keeps_what_reads(alloc: Global) -> Result<bool, Fail> {
+    let out = opened(alloc, store_of(alloc, &TO_BE_KEPT, 100, Leaves::Old)?)?;
+    match out.opening() {
+        [first, second] => Ok(
+            is_kept(first, "a-b", 1, 0, &[])
+                && is_kept(second, "a", 2, 1, &["a.dest/g2/x", "a.dest/g2/y/z"]),
+        ),
+        _ => Ok(false),
+    }
+}
+
+#[test]
+fn a_start_keeps_the_entries_that_read_with_the_names_of_their_generations(
+    rt: HostRuntime,
+) -> Result<(), Fail> {
+    assert!(rt; keeps_what_reads(rt.alloc())?);
+    Ok(())
+}
+
+fn number_read(out: &mut Out<MemStore>, task: &Text) -> Result<Option<u32>, OutFault> {
+    match read(out, task)? {
+        Some(entry) => Ok(Some(entry.generation)),
+        None => Ok(None),
+    }
 }
 
 const CLEANED: [(&str, &str); 3] = [
-    ("a.dest/g1/x", "1"),
+    ("a.dest/g1/x", "0"),
     ("a.dest/g2/x", "1"),
     ("a.dest/g2/y", "2"),
 ];
 
+// A run over an earlier one is published and cleaned, and the entry is read before, between and after.
+fn publishes_and_cleans(alloc: Global) -> Result<bool, Fail> {
+    let mut out = opened(alloc, store_of(alloc, &EARLIER, 100, Leaves::Old)?)?;
+    let a = task(alloc)?;
+    let before = number_read(&mut out, &a)?;
+    let number = publish(&mut out, &run(alloc)?)?;
+    let between = number_read(&mut out, &a)?;
+    clean(&mut out, &a)?;
+    let after = number_read(&mut out, &a)?;
+    Ok(
+        before == Some(1)
+            && number == 2
+            && between == Some(2)
+            && after.is_none()
+            && has(out.end(), &CLEANED),
+    )
+}
+
 #[test]
 fn a_run_takes_the_next_number_and_clean_takes_entry_and_log(rt: HostRuntime) -> Result<(), Fail> {
-    let (number, store) = next_and_cleaned(rt.alloc())?;
-    assert!(rt; number == 2);
-    assert!(rt; has(store, &CLEANED));
+    assert!(rt; publishes_and_cleans(rt.alloc())?);
     Ok(())
 }
