@@ -11,7 +11,7 @@ use Rattle.class_index.specs.declared.outline.Outline.{Outline}
 use Rattle.class_index.specs.declared.members.Wanted.TheVariants.{Any, Overriding}
 use Rattle.class_index.specs.Members.{wanted_method}
 use Rattle.class_index.specs.Added.{added}
-use Rattle.class_index.specs.Selection.{if_concrete, the_only, overriding}
+use Rattle.class_index.specs.Selection.{unless_abstract, the_only, overriding}
 use Rattle.class_index.proofs.Pushes.{filter_map_more}
 
 pub nearest_found : (find : ℕ → Option Method) (supers : List (Option ℕ)) (n place : ℕ) (m : Method) → 0 < n → find place ≡ Some m → nearest find supers n place ≡ Some (found_at place m)
@@ -70,7 +70,7 @@ unfolding resolved
 resolved_above own all supers above name descriptor place others r e f g = rw (← e, ← f) g
 
 pub overriding_nearest : (own : ℕ) (all : List Outline) (supers : List (Option ℕ)) (above : ℕ → List ℕ) (name descriptor : List ℕ) (place : ℕ) (found : Found)
-    → Some found ≡ nearest (wanted_method own all name descriptor Overriding) supers (length all) place → if_concrete own found ≡ overriding own all supers above name descriptor place
+    → Some found ≡ nearest (wanted_method own all name descriptor Overriding) supers (length all) place → unless_abstract own found ≡ overriding own all supers above name descriptor place
 unfolding overriding
 overriding_nearest own all supers above name descriptor place found e = rw (← e) refl
 

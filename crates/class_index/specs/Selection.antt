@@ -16,8 +16,8 @@ use Rattle.class_index.specs.Resolution.{member_of, above}
 use Rattle.class_index.specs.Declarations.{Declaration, method_at}
 
 -- a method that was looked up in a class, unless it is abstract
-abbrev pub if_concrete : ℕ → Found → Selected
-if_concrete own found =
+abbrev pub unless_abstract : ℕ → Found → Selected
+unless_abstract own found =
     if found.method.is_abstract then selected.Abstract else selected.Found (member_of own found.place found.method.at)
 
 -- of the maximally-specific superinterface methods that aren't abstract there must be exactly one
@@ -27,7 +27,7 @@ the_only own (One found) = selected.Found (member_of own found.place found.metho
 the_only own Many = selected.Tie
 
 abbrev pub or_only : ℕ → Option Found → Choice → Selected
-or_only own (Some found) choice = if_concrete own found
+or_only own (Some found) choice = unless_abstract own found
 or_only own None choice = the_only own choice
 
 -- The nearest method of the name and descriptor that can override (5.4.5: neither private nor static), along a class

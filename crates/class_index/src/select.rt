@@ -4,7 +4,7 @@ ghost use Rattle.std.specs.Prelude.{◌≡◌, ◌<◌, ◌^◌, ℕ, All, List,
 ghost use Rattle.place_graph.specs.Graphs.{AreWithin, edges_of};
 ghost use Rattle.class_index.specs.Members.{HasFewMembers};
 ghost use Rattle.class_index.specs.Lookups.{AreSupers};
-ghost use Rattle.class_index.specs.Selection.{if_concrete, the_only, overriding};
+ghost use Rattle.class_index.specs.Selection.{unless_abstract, the_only, overriding};
 
 use crate::index::Index;
 use crate::lookup::{Choice, Found, most_specific, nearest};
@@ -25,8 +25,8 @@ pub enum Selected {
 }
 
 /// A method that was looked up in a class, unless it is abstract.
-fn if_concrete(own: usize, found: Found) -> Selected
-    ensures { result ≡ if_concrete own found }
+fn unless_abstract(own: usize, found: Found) -> Selected
+    ensures { result ≡ unless_abstract own found }
 {
     if found.method.is_abstract {
         Selected::Abstract
@@ -73,7 +73,7 @@ fn overriding(
         Wanted::Overriding,
         place,
     ) {
-        Some(found) => if_concrete(own, found),
+        Some(found) => unless_abstract(own, found),
         None => the_only(
             own,
             most_specific(own, all, above, name, descriptor, above[place].as_slice()),

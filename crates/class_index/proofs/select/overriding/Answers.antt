@@ -7,7 +7,7 @@ use Rattle.class_index.proofs.select.overriding.Goals as goal
 
 pub returns-in-Some : goal.returns-in-Some
 returns-in-Some c =
-    c.if_concrete.ensures
+    c.unless_abstract.ensures
     ∙ overriding_nearest c.args.own c.args.all.now c.args.supers.now (edges_of c.args.above.now) c.args.name.now c.args.descriptor.now c.args.place c.in-Some.found c.in-Some.ensures
 
 pub returns-in-None : goal.returns-in-None
