@@ -5,7 +5,8 @@ use Rattle.std.specs.Str.{bytes_eq}
 use Rattle.std.proofs.lemmas.Bool.{cases_Bool, and_parts, or_left, or_right, ltb-true, both_ways, not-true}
 use Rattle.std.proofs.lemmas.Option.{slice_get-map, slice_get_within, slice_get_read}
 use Rattle.std.proofs.lemmas.Slice.Eq.{bytes_eq-Decides}
-use Rattle.class_model.specs.declared.identifiers.ClassId.TheVariants.{Own}
+use Rattle.class_model.specs.declared.identifiers.ClassId.{ClassId}
+use Rattle.class_model.specs.declared.identifiers.ClassId.TheVariants.{Own, Outer}
 use Rattle.class_model.specs.declared.identifiers.MemberId.{MemberId}
 use Rattle.jvm_tables.specs.declared.externals.Family.{Family}
 use Rattle.jvm_tables.specs.declared.externals.Family.TheVariants as families
@@ -15,7 +16,7 @@ use Rattle.jvm_tables.specs.Natives.{Native, natives, native_of, is_array, stand
 use Rattle.class_index.specs.declared.outline.Outline.{Outline}
 use Rattle.class_index.specs.declared.members.Method.{Method}
 use Rattle.class_index.specs.Outlines.{outer_outline}
-use Rattle.class_index.specs.Hierarchy.{all_of}
+use Rattle.class_index.specs.Hierarchy.{all_of, IsClassId}
 use Rattle.class_index.specs.Members.{member_from, method_of, native_method, abstract_method, is_abstract_of, outer_method, declared}
 use Rattle.class_index.specs.Declarations.{Declaration, declaration, own_declaration, has_native, outer_declaration, method_at, IsMethodId}
 use Rattle.class_index.specs.Resolution.{member_of}
@@ -92,6 +93,24 @@ front_of classes place h = front classes _ place h
 
 method_own : (classes : List Outline) (id : MemberId) (class : ℕ) → id.class ≡ Own class → method_at classes id ≡ option_and_then (own_declaration id.at) (slice_get classes class)
 method_own classes id class e = rw e refl
+
+found_in : {A B : Type 0} (f : A → Option B) (o : Option A) → IsSome (option_and_then f o) → (x : A) × (o ≡ Some x)
+found_in f None t = let none : false ≡ true = t in cc
+found_in f (Some x) t = (x, refl)
+
+-- a method that is there stands in a class that is there
+pub class_there : (classes : List Outline) (id : MemberId) → IsMethodId classes id → IsClassId classes id.class
+class_there classes id h = by_class id.class refl
+  where
+    by_class : (k : ClassId) → id.class ≡ k → IsClassId classes id.class
+    by_class (Own class) e =
+        let found = found_in (own_declaration id.at) (slice_get classes class) (rw e at h) in
+        let within : class < length classes = slice_get_within classes class found.0 found.1 in
+        rw e within
+    by_class (Outer row) e =
+        let found = found_in (outer_declaration id.at) (slice_get externals row) (rw e at h) in
+        let within : row < length externals = slice_get_within externals row found.0 found.1 in
+        rw e within
 
 -- the class of a method that is there is one of the program's
 pub own_within : (classes : List Outline) (id : MemberId) (class : ℕ) → id.class ≡ Own class → IsMethodId classes id → class < length (all_of classes)

@@ -5,6 +5,8 @@ ghost use Rattle.class_model.specs.declared.identifiers.ClassId.{ClassId};
 ghost use Rattle.class_model.specs.declared.identifiers.MemberId.{MemberId};
 ghost use Rattle.class_index.specs.declared.outline.Outline.{Outline};
 ghost use Rattle.class_index.specs.declared.select.Selected.TheVariants as selected;
+ghost use Rattle.class_index.specs.Declarations.{IsMethodId};
+ghost use Rattle.class_index.specs.Hierarchy.{IsClassId};
 ghost use Rattle.class_index.specs.Inherited.{IsInheritedField, IsInheritedMethod, IsSelection};
 ghost use Rattle.class_index.specs.Resolution.{resolve_field, resolve_method};
 ghost use Rattle.class_index.specs.Selection.{select};
@@ -18,6 +20,11 @@ pub fn subtyping_is_reflexive()
 /// A subtype of a subtype is a subtype.
 pub fn subtyping_is_transitive()
     ensures { (classes : List Outline) (low middle high : ClassId) → IsSubtype classes low middle → IsSubtype classes middle high → IsSubtype classes low high }
+{}
+
+/// A method that is there stands in a class that is there.
+pub fn methods_stand_in_classes()
+    ensures { (classes : List Outline) (id : MemberId) → IsMethodId classes id → IsClassId classes id.class }
 {}
 
 /// A field that is found has the name and descriptor of the reference, and is one of its owner or of one of the owner's

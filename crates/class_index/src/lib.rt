@@ -18,8 +18,8 @@ mod subtype;
 pub use fault::IndexFault;
 pub use index::Index;
 pub use laws::{
-    resolved_fields_are_inherited, resolved_methods_are_inherited, selected_methods_override,
-    subtyping_is_reflexive, subtyping_is_transitive,
+    methods_stand_in_classes, resolved_fields_are_inherited, resolved_methods_are_inherited,
+    selected_methods_override, subtyping_is_reflexive, subtyping_is_transitive,
 };
 pub use lookup::Found;
 pub use members::{ABSTRACT_AT, Method};

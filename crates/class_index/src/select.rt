@@ -20,7 +20,7 @@ pub enum Selected {
     Found(MemberId),
     /// The method that is looked up is abstract, or there is none.
     Abstract,
-    /// Several superinterface methods are maximally specific, and none of them is abstract.
+    /// Several of the maximally-specific superinterface methods aren't abstract.
     Tie,
 }
 
