@@ -2,3 +2,4 @@ pub mod Lists
 pub mod Depths
 pub mod Firsts
 pub mod Files
+pub mod Entered

@@ -13,7 +13,7 @@ use crate::annotations::annotations_in;
 use crate::class_fault::ClassFault;
 use crate::frames::frames_in;
 use crate::numbers::{place_of, run_in, u2_in, u4_in};
-use crate::stands::{Found, Stand, is_known, own_name, text_of};
+use crate::stands::{Found, Stand, is_known, own_name};
 use crate::targets::{caught_in, field_value_in, handle_in, loadable_in, text_in};
 use class_model::{Attribute, Attributes, Bootstrap, Bootstraps, Handler, Handlers, Indices, Pool};
 use sqlite_items::Items;
@@ -256,7 +256,7 @@ fn code_content_in<'a>(
 ) -> Result<(Attribute, &'a [u8]), ClassFault>
     ensures { Gives (λ r. (r.0, r.1.now)) result (code_content_at pool.now name at end bytes.now) }
 {
-    if is_named(text_of(pool, name), b"StackMapTable") {
+    if is_named(pool.text_or_empty(name), b"StackMapTable") {
         return stack_map_in(alloc, pool, name, end, bytes);
     }
     other_in(alloc, name, end, bytes)
@@ -298,7 +298,7 @@ fn named_in<'a>(
     ensures { Gives (λ r. (r.0, r.1.now)) result (named_at pool.now (stand_of stand.entry) barred found.now.list end bytes.now) }
 {
     let (name, rest) = text_in(pool, end, bytes)?;
-    let text = text_of(pool, name);
+    let text = pool.text_or_empty(name);
     if !found.is_first(pool, stand, text) {
         return Err(ClassFault::SecondAttribute(place_of(end, bytes)));
     }
@@ -440,7 +440,7 @@ fn content_in<'a>(
 ) -> Result<(Attribute, &'a [u8]), ClassFault>
     ensures { Gives (λ r. (r.0, r.1.now)) result (content_at pool.now (stand_of stand.entry) name at end bytes.now) }
 {
-    let text = text_of(pool, name);
+    let text = pool.text_or_empty(name);
     if is_named(text, own_name(stand)) {
         return own_content_in(alloc, pool, stand, name, at, end, bytes);
     }

@@ -1,47 +1,57 @@
 //! Fields and methods (JVMS 4.5 and 4.6).
 
-ghost use Rattle.std.specs.Prelude.{◌≡◌, ◌||◌, ◌&&◌, ◌==◌, [], not, true, bytes_eq, Ok, Err};
-ghost use Rattle.std.specs.List.{list_any};
-ghost use Rattle.class_model.specs.declared.class_file.Member.{Member};
+ghost use Rattle.std.specs.Prelude.{◌≡◌, ◌++◌, ◌∷◌, [], IfOk};
 ghost use Rattle.class_model.specs.declared.attribute_forms.Attribute.{out-Attribute};
-ghost use Rattle.class_model.specs.Shape.{are_same, most_slots, is_code_layer, has_code};
+ghost use Rattle.class_model.specs.SeenMembers.{HasSeen};
+ghost use Rattle.class_model.specs.Shape.{most_slots, is_code_layer, has_code};
 ghost use Rattle.class_text.specs.Readers.{index_at, many_after, counted_after};
-ghost use Rattle.class_text.specs.Classes.{is_new, is_field_type, is_method_type, is_barred, field_at, method_at};
+ghost use Rattle.class_text.specs.Classes.{is_field_type, is_method_type, is_barred, field_at, method_at};
 ghost use Rattle.class_read.specs.Faults.{Gives};
+ghost use Rattle.class_read.specs.Entered.{IsEntered};
 
 use crate::attributes::attributes_in;
 use crate::class_fault::ClassFault;
 use crate::numbers::{place_of, u2_in};
-use crate::stands::{Stand, text_of};
+use crate::stands::Stand;
 use crate::targets::{field_name_in, method_name_in};
-use class_model::{Attribute, Member, Members, Pool};
+use class_model::{Attribute, Member, MemberNames, Members, Pool};
 use sqlite_items::Items;
-use std::alloc::Global;
+use std::alloc::{AllocError, Global};
 
-/// Whether a member has this name and this descriptor.
-fn is_same(pool: &Pool, member: &Member, name: u16, descriptor: u16) -> bool
-    ensures { result ≡ are_same pool.now member.now (record { flags = 0; name = name; descriptor = descriptor; attributes = [] }) }
-{
-    if text_of(pool, member.name) != text_of(pool, name) {
-        return false;
+/// The members before one, and their names and descriptors.
+#[derive(Drop)]
+struct Before<'p> {
+    list: Members,
+    names: MemberNames<'p>,
+}
+
+impl<'p> Before<'p> {
+    ghost use Rattle.std.specs.Prelude.{◌≡◌, [], IfOk, OnOk};
+    ghost use Rattle.class_model.specs.declared.constant_pool.Pool.{Pool};
+    ghost use Rattle.class_model.specs.SeenMembers.{HasSeen};
+    ghost use Rattle.class_text.specs.Classes.{is_new};
+    ghost use Rattle.class_read.specs.Entered.{IsEntered};
+
+    fn new(alloc: Global) -> Before<'p>
+        ensures none { result.list ≡ [] }
+        ensures seen { (pool : Pool) → HasSeen pool [] result.names }
+    {
+        Before {
+            list: Items::new(alloc),
+            names: MemberNames::new(alloc),
+        }
     }
-    text_of(pool, member.descriptor) == text_of(pool, descriptor)
-}
 
-/// Whether a member before has this name and this descriptor.
-fn is_there(pool: &Pool, before: &[Member], name: u16, descriptor: u16) -> bool
-    ensures { result ≡ list_any (λ m. are_same pool.now m (record { flags = 0; name = name; descriptor = descriptor; attributes = [] })) before.now }
-{
-    before
-        .iter()
-        .any(|member| is_same(pool, member, name, descriptor))
-}
-
-#[tactic(auto, unfolding(class_text::specs::Classes::is_new, class_text::specs::Attributes::is_first))]
-fn is_new(pool: &Pool, before: &[Member], name: u16, descriptor: u16) -> bool
-    ensures { result ≡ is_new pool.now before.now name descriptor }
-{
-    !is_there(pool, before, name, descriptor)
+    /// Enters a name and a descriptor, and tells whether no member before has both.
+    fn enter(&mut self, pool: &'p Pool, name: u16, descriptor: u16) -> Result<bool, AllocError>
+        requires { HasSeen pool.now self.old.list self.old.names }
+        ensures first { IfOk result (λ first. first ≡ is_new pool.now self.old.list name descriptor) }
+        ensures list { self.new.list ≡ self.old.list }
+        ensures seen { OnOk result (IsEntered pool.now name descriptor self.old.list self.new.names) }
+    {
+        let first = self.names.insert(pool, name, descriptor)?;
+        Ok(first)
+    }
 }
 
 /// The slots that parameters may take beside `this`.
@@ -53,20 +63,23 @@ fn most_slots(flags: u16) -> u8
 
 /// The descriptor of a field behind its name, which no field before has.
 #[tactic(auto, unfolding(class_text::specs::Readers::index_at, class_text::specs::Classes::is_field_type))]
-fn field_type_in<'a>(
-    pool: &Pool,
-    before: &[Member],
+fn field_type_in<'a, 'p>(
+    pool: &'p Pool,
+    before: &mut Before<'p>,
     name: u16,
     end: u32,
     bytes: &'a [u8],
 ) -> Result<(u16, &'a [u8]), ClassFault>
-    ensures { Gives (λ r. (r.0, r.1.now)) result (index_at (is_field_type pool.now before.now name) end bytes.now) }
+    requires { HasSeen pool.now before.old.list before.old.names }
+    ensures read { Gives (λ r. (r.0, r.1.now)) result (index_at (is_field_type pool.now before.old.list name) end bytes.now) }
+    ensures list { before.new.list ≡ before.old.list }
+    ensures seen { IfOk result (λ r. IsEntered pool.now name r.0 before.old.list before.new.names) }
 {
     let (number, rest) = u2_in(end, bytes)?;
     if !pool.is_field_type(number) {
         return Err(ClassFault::BadIndex(place_of(end, bytes)));
     }
-    if !is_new(pool, before, name, number) {
+    if !before.enter(pool, name, number)? {
         return Err(ClassFault::BadIndex(place_of(end, bytes)));
     }
     Ok((number, rest))
@@ -74,40 +87,47 @@ fn field_type_in<'a>(
 
 /// The descriptor of a method behind its flags and its name, which no method before has.
 #[tactic(auto, unfolding(class_text::specs::Readers::index_at, class_text::specs::Classes::is_method_type))]
-fn method_type_in<'a>(
-    pool: &Pool,
-    before: &[Member],
+fn method_type_in<'a, 'p>(
+    pool: &'p Pool,
+    before: &mut Before<'p>,
     flags: u16,
     name: u16,
     end: u32,
     bytes: &'a [u8],
 ) -> Result<(u16, &'a [u8]), ClassFault>
-    ensures { Gives (λ r. (r.0, r.1.now)) result (index_at (is_method_type pool.now before.now flags name) end bytes.now) }
+    requires { HasSeen pool.now before.old.list before.old.names }
+    ensures read { Gives (λ r. (r.0, r.1.now)) result (index_at (is_method_type pool.now before.old.list flags name) end bytes.now) }
+    ensures list { before.new.list ≡ before.old.list }
+    ensures seen { IfOk result (λ r. IsEntered pool.now name r.0 before.old.list before.new.names) }
 {
     let (number, rest) = u2_in(end, bytes)?;
     if !pool.is_method_type(most_slots(flags), number) {
         return Err(ClassFault::BadIndex(place_of(end, bytes)));
     }
-    if !is_new(pool, before, name, number) {
+    if !before.enter(pool, name, number)? {
         return Err(ClassFault::BadIndex(place_of(end, bytes)));
     }
     Ok((number, rest))
 }
 
+/// Reads a field, and enters its name and descriptor.
 #[tactic(auto, unfolding(class_text::specs::Classes::field_at))]
-fn field_in<'a>(
+fn field_in<'a, 'p>(
     alloc: Global,
-    pool: &Pool,
-    before: &[Member],
+    pool: &'p Pool,
+    before: &mut Before<'p>,
     end: u32,
     bytes: &'a [u8],
 ) -> Result<(Member, &'a [u8]), ClassFault>
-    ensures { Gives (λ r. (r.0, r.1.now)) result (field_at pool.now before.now end bytes.now) }
+    requires { HasSeen pool.now before.old.list before.old.names }
+    ensures read { Gives (λ r. (r.0, r.1.now)) result (field_at pool.now before.old.list end bytes.now) }
+    ensures list { before.new.list ≡ before.old.list }
+    ensures seen { IfOk result (λ r. HasSeen pool.now (before.old.list ++ r.0 ∷ []) before.new.names) }
 {
     let (flags, rest) = u2_in(end, bytes)?;
     let (name, rest) = field_name_in(pool, end, rest)?;
     let (descriptor, rest) = field_type_in(pool, before, name, end, rest)?;
-    let stand = Stand::Field(text_of(pool, descriptor));
+    let stand = Stand::Field(pool.text_or_empty(descriptor));
     let (attributes, rest) = attributes_in(alloc, pool, stand, false, end, rest)?;
     let field = Member {
         flags,
@@ -140,15 +160,19 @@ fn has_code(attributes: &[Attribute]) -> bool
     attributes.iter().any(|attribute| is_code(attribute))
 }
 
+/// Reads a method, and enters its name and descriptor.
 #[tactic(auto, unfolding(class_text::specs::Classes::method_at))]
-fn method_in<'a>(
+fn method_in<'a, 'p>(
     alloc: Global,
-    pool: &Pool,
-    before: &[Member],
+    pool: &'p Pool,
+    before: &mut Before<'p>,
     end: u32,
     bytes: &'a [u8],
 ) -> Result<(Member, &'a [u8]), ClassFault>
-    ensures { Gives (λ r. (r.0, r.1.now)) result (method_at pool.now before.now end bytes.now) }
+    requires { HasSeen pool.now before.old.list before.old.names }
+    ensures read { Gives (λ r. (r.0, r.1.now)) result (method_at pool.now before.old.list end bytes.now) }
+    ensures list { before.new.list ≡ before.old.list }
+    ensures seen { IfOk result (λ r. HasSeen pool.now (before.old.list ++ r.0 ∷ []) before.new.names) }
 {
     let (flags, rest) = u2_in(end, bytes)?;
     let (name, rest) = method_name_in(pool, end, rest)?;
@@ -177,18 +201,18 @@ fn some_fields_in<'a>(
 ) -> Result<(Members, &'a [u8]), ClassFault>
     ensures { Gives (λ r. (r.0, r.1.now)) result (many_after (field_at pool.now) [] count end bytes.now) }
 {
-    let mut items = Items::new(alloc);
+    let mut before = Before::new(alloc);
     let mut rest = bytes;
     for i in 0..count {
-        match field_in(alloc, pool, items.as_slice(), end, rest) {
+        match field_in(alloc, pool, &mut before, end, rest) {
             Ok((item, more)) => {
-                items.push(item)?;
+                before.list.push(item)?;
                 rest = more;
             }
             Err(fault) => return Err(fault),
         }
     }
-    Ok((items, rest))
+    Ok((before.list, rest))
 }
 
 /// The fields of a class, behind their count.
@@ -215,18 +239,18 @@ fn some_methods_in<'a>(
 ) -> Result<(Members, &'a [u8]), ClassFault>
     ensures { Gives (λ r. (r.0, r.1.now)) result (many_after (method_at pool.now) [] count end bytes.now) }
 {
-    let mut items = Items::new(alloc);
+    let mut before = Before::new(alloc);
     let mut rest = bytes;
     for i in 0..count {
-        match method_in(alloc, pool, items.as_slice(), end, rest) {
+        match method_in(alloc, pool, &mut before, end, rest) {
             Ok((item, more)) => {
-                items.push(item)?;
+                before.list.push(item)?;
                 rest = more;
             }
             Err(fault) => return Err(fault),
         }
     }
-    Ok((items, rest))
+    Ok((before.list, rest))
 }
 
 /// The methods of a class, behind their count.

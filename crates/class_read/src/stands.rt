@@ -4,7 +4,7 @@ ghost use Rattle.std.specs.Prelude.{◌≡◌, ◌++◌, ◌∷◌, [], ◌&&◌
 ghost use Rattle.class_model.specs.declared.attribute_forms.Attribute.{out-Attribute};
 ghost use Rattle.class_model.specs.Attributes.{is_known, attribute_name};
 ghost use Rattle.class_model.specs.Spelling.{name_of};
-ghost use Rattle.class_text.specs.Attributes.{text_of, is_first, own_name};
+ghost use Rattle.class_text.specs.Attributes.{is_first, own_name};
 ghost use Rattle.class_read.specs.Stands.{place_of, Keeps};
 
 use class_model::{Attribute, Attributes, Pool};
@@ -47,16 +47,6 @@ pub(crate) fn is_known(stand: Stand<'_>, text: &[u8]) -> bool
         Stand::Field(_) => text == b"ConstantValue".as_slice() || is_annotations(text),
         Stand::Method => text == b"Code".as_slice() || is_annotations(text),
         Stand::Code => text == b"StackMapTable".as_slice(),
-    }
-}
-
-/// The text of a number, and nothing where it has none.
-pub(crate) fn text_of(pool: &Pool, number: u16) -> &[u8]
-    ensures { result.now ≡ text_of pool.now number }
-{
-    match pool.text(number) {
-        Some(text) => text,
-        None => &[],
     }
 }
 
@@ -123,7 +113,7 @@ impl Found {
         ensures list { OnOk result (self.new.list ≡ self.old.list ++ attribute ∷ []) }
         ensures keeps { OnOk result (Keeps pool.now (place_of stand.entry) self.new) }
     {
-        let text = text_of(pool, name_of(&attribute));
+        let text = pool.text_or_empty(name_of(&attribute));
         self.own = self.own || text == own_name(stand);
         self.annotations = self.annotations || is_annotations(text);
         self.list.push(attribute)

@@ -1,17 +1,28 @@
-use Rattle.std.proofs.Common.{arith}
+use Rattle.std.proofs.Common.{◌≡◌, List, [], ◌∷◌, ◌++◌, ap, ◌∙◌, arith}
+use Rattle.class_model.specs.declared.class_file.Member.{Member}
 use Rattle.class_text.specs.Classes.{field_at}
-use Rattle.class_read.proofs.Lists.{next, refused, done}
+use Rattle.class_read.proofs.Lists.{started, next, refused, done}
 use Rattle.class_read.proofs.members.some_fields_in.Goals as goal
+
+pub loop-i-init : goal.loop-i-init
+loop-i-init c = (
+  started (field_at c.args.pool.now) c.new-before.result.list c.args.count c.args.end c.args.bytes.now c.new-before.ensures.none,
+  rw c.new-before.ensures.none (c.new-before.ensures.seen c.args.pool.now),
+)
 
 pub returns-in-Err : goal.returns-in-Err
 returns-in-Err c =
-    refused (field_at c.args.pool.now) c.loop-i.items c.args.count c.loop-i.i c.args.end c.loop-i.rest.now c.in-Err.fault _ (omega arith) (rw c.as_slice.ensures at c.in-Err.ensures) c.loop-i.invariant
+    refused (field_at c.args.pool.now) c.loop-i.before.list c.args.count c.loop-i.i c.args.end c.loop-i.rest.now c.in-Err.fault _ (omega arith) c.in-Err.ensures.read c.loop-i.invariant.0
 
 pub loop-i-preserved : goal.loop-i-preserved
 loop-i-preserved c =
-    rw c.in_ok-push-in-Ok.ensures.ok
-    (next (field_at c.args.pool.now) c.loop-i.items c.args.count c.loop-i.i c.args.end c.loop-i.rest.now c.in-Ok.item c.in-Ok.more.now _ (omega arith) (rw c.as_slice.ensures at c.in-Ok.ensures) c.loop-i.invariant)
+    let pushed : c.push.new.self ≡ c.loop-i.before.list ++ c.in-Ok.item ∷ [] =
+    c.in_ok-push-in-Ok.ensures.ok ∙ ap (λ (l : List Member). l ++ c.in-Ok.item ∷ []) c.in-Ok.ensures.list in
+    rw pushed (
+      next (field_at c.args.pool.now) c.loop-i.before.list c.args.count c.loop-i.i c.args.end c.loop-i.rest.now c.in-Ok.item c.in-Ok.more.now _ (omega arith) c.in-Ok.ensures.read c.loop-i.invariant.0,
+      c.in-Ok.ensures.seen,
+    )
 
 pub returns : goal.returns
 returns c =
-    done (field_at c.args.pool.now) c.loop-i.items c.args.count c.loop-i.i c.args.end c.loop-i.rest.now _ (omega arith) c.loop-i.invariant
+    done (field_at c.args.pool.now) c.loop-i.before.list c.args.count c.loop-i.i c.args.end c.loop-i.rest.now _ (omega arith) c.loop-i.invariant.0
