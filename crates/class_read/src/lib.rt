@@ -17,4 +17,8 @@ pub use class_fault::ClassFault;
 pub use class_file::read_class;
 
 #[cfg(test)]
+mod part_tables;
+#[cfg(test)]
+mod tables;
+#[cfg(test)]
 mod tests;
