@@ -7,6 +7,7 @@ use Rattle.std.proofs.lemmas.Slice.Eq.{bytes_eq-Decides}
 use Rattle.std.proofs.lemmas.List.{same_from_push, append-nil, map-append}
 use Rattle.io_traits.specs.Causes.{Rose}
 use Rattle.io_traits.specs.Files.{Files}
+use Rattle.out_store.specs.declared.numbers.Numbers.{Numbers}
 use Rattle.mill_top.specs.declared.build_fault.BuildFault.{BuildFault}
 use Rattle.mill_top.specs.declared.build_fault.BuildFault.TheVariants as faults
 use Rattle.mill_top.specs.declared.outcome.Outcome.{Outcome}
@@ -19,7 +20,7 @@ use Rattle.mill_top.specs.Graphs.{build_graph, named, task_in, refusal_of_build,
 use Rattle.mill_top.specs.Replies.{build_reply, refusal_by, refusal}
 use Rattle.mill_top.specs.Scratch.{scratch}
 use Rattle.mill_top.specs.Takes.{Take, task_of, seen, given}
-use Rattle.mill_top.specs.Out.{after_takes, MayLeave}
+use Rattle.mill_top.specs.Leaving.{after_takes, MayLeave}
 use Rattle.mill_top.specs.Answers.{IsUnlessMemory, IsEvaluation, AreTaken, IsValue, IsEvaluated, IsRefused, IsAnswer}
 use Rattle.mill_top.specs.Walks.{latest_value, IsWalked, IsStopped}
 use Rattle.mill_top.proofs.PlanLaws.{task_is, plan-last}
@@ -34,17 +35,17 @@ accepted_by task None (Some own) e = (refl, (own, refl))
 
 -- ---- an answer, by whether the record is refused
 
-by_evaluated : (inputs : Record) (task : List ℕ) (before now : ℕ) (old new : Option Files) (reply : Reply) (takes : List (List ℕ × Found)) (r : Option Reply) → r ≡ None
-    → IsEvaluated inputs task before now old new reply takes
-    → MatchOption r (IsEvaluated inputs task before now old new reply takes) (λ refused. IsRefused refused old new reply takes)
-by_evaluated inputs task before now old new reply takes r none h = rw none h
+by_evaluated : (inputs : Record) (task : List ℕ) (before now : ℕ) (numbers : Numbers) (old new : Option Files) (reply : Reply) (takes : List (List ℕ × Found)) (r : Option Reply) → r ≡ None
+    → IsEvaluated inputs task before now numbers old new reply takes
+    → MatchOption r (IsEvaluated inputs task before now numbers old new reply takes) (λ refused. IsRefused refused old new reply takes)
+by_evaluated inputs task before now numbers old new reply takes r none h = rw none h
 
-pub evaluated_answer : (inputs : Record) (task : List ℕ) (before now : ℕ) (old new : Option Files) (reply : Reply) (takes : List (List ℕ × Found)) → refusal inputs task ≡ None
-    → IsEvaluated inputs task before now old new reply takes → IsAnswer inputs task before now old new reply takes
-evaluated_answer inputs task before now old new reply takes accepted h = by_evaluated inputs task before now old new reply takes (refusal inputs task) accepted h
+pub evaluated_answer : (inputs : Record) (task : List ℕ) (before now : ℕ) (numbers : Numbers) (old new : Option Files) (reply : Reply) (takes : List (List ℕ × Found)) → refusal inputs task ≡ None
+    → IsEvaluated inputs task before now numbers old new reply takes → IsAnswer inputs task before now numbers old new reply takes
+evaluated_answer inputs task before now numbers old new reply takes accepted h = by_evaluated inputs task before now numbers old new reply takes (refusal inputs task) accepted h
 
-memory_evaluated : (inputs : Record) (task : List ℕ) (before now : ℕ) (content : Option Files) → IsEvaluated inputs task before now content content Memory []
-memory_evaluated inputs task before now content = record {
+memory_evaluated : (inputs : Record) (task : List ℕ) (before now : ℕ) (numbers : Numbers) (content : Option Files) → IsEvaluated inputs task before now numbers content content Memory []
+memory_evaluated inputs task before now numbers content = record {
   evaluated = inr refl;
   cause = λ e. cc;
   done = [];
@@ -54,32 +55,32 @@ memory_evaluated inputs task before now content = record {
   left = refl;
 }
 
-by_memory : (inputs : Record) (task : List ℕ) (before now : ℕ) (content : Option Files) (r : Option Reply)
-    → MatchOption r (IsEvaluated inputs task before now content content Memory []) (λ refused. IsRefused refused content content Memory [])
-by_memory inputs task before now content None = memory_evaluated inputs task before now content
-by_memory inputs task before now content (Some refused) = record { reply_is = inr refl; nothing_taken = refl; out = refl }
+by_memory : (inputs : Record) (task : List ℕ) (before now : ℕ) (numbers : Numbers) (content : Option Files) (r : Option Reply)
+    → MatchOption r (IsEvaluated inputs task before now numbers content content Memory []) (λ refused. IsRefused refused content content Memory [])
+by_memory inputs task before now numbers content None = memory_evaluated inputs task before now numbers content
+by_memory inputs task before now numbers content (Some refused) = record { reply_is = inr refl; nothing_taken = refl; out = refl }
 
-by_refused : (inputs : Record) (task : List ℕ) (before now : ℕ) (content : Option Files) (reply : Reply) (r : Option Reply) → r ≡ Some reply
-    → MatchOption r (IsEvaluated inputs task before now content content reply []) (λ refused. IsRefused refused content content reply [])
-by_refused inputs task before now content reply r is = rw is (record { reply_is = inl refl; nothing_taken = refl; out = refl })
+by_refused : (inputs : Record) (task : List ℕ) (before now : ℕ) (numbers : Numbers) (content : Option Files) (reply : Reply) (r : Option Reply) → r ≡ Some reply
+    → MatchOption r (IsEvaluated inputs task before now numbers content content reply []) (λ refused. IsRefused refused content content reply [])
+by_refused inputs task before now numbers content reply r is = rw is (record { reply_is = inl refl; nothing_taken = refl; out = refl })
 
 -- nothing is taken where the record is refused, or memory was wanted before it was clear
-pub nothing_answer : (inputs : Record) (task : List ℕ) (before now : ℕ) (content : Option Files) (reply : Reply) → (reply ≡ Memory) ⊎ (refusal inputs task ≡ Some reply)
-    → IsAnswer inputs task before now content content reply []
-nothing_answer inputs task before now content reply (inl wanted) =
-    subst (λ r. IsAnswer inputs task before now content content r []) (sym wanted) (by_memory inputs task before now content (refusal inputs task))
-nothing_answer inputs task before now content reply (inr is) = by_refused inputs task before now content reply (refusal inputs task) is
+pub nothing_answer : (inputs : Record) (task : List ℕ) (before now : ℕ) (numbers : Numbers) (content : Option Files) (reply : Reply) → (reply ≡ Memory) ⊎ (refusal inputs task ≡ Some reply)
+    → IsAnswer inputs task before now numbers content content reply []
+nothing_answer inputs task before now numbers content reply (inl wanted) =
+    subst (λ r. IsAnswer inputs task before now numbers content content r []) (sym wanted) (by_memory inputs task before now numbers content (refusal inputs task))
+nothing_answer inputs task before now numbers content reply (inr is) = by_refused inputs task before now numbers content reply (refusal inputs task) is
 
 -- ---- an evaluation, from the walk along the plan
 
 given_first : (take : Take) (earlier : List Take) → given (take ∷ earlier) take.task ≡ Some take.value
 given_first take earlier = rw ((bytes_eq-Decides take.task take.task).1 refl) refl
 
-last_value : (inputs : Record) (task : List ℕ) (file : TaskFile) (front : List TaskFile) (old new : Option Files) (takes : List (List ℕ × Found)) (done : List Take) (value : ℤ)
+last_value : (inputs : Record) (task : List ℕ) (file : TaskFile) (front : List TaskFile) (numbers : Numbers) (old new : Option Files) (takes : List (List ℕ × Found)) (done : List Take) (value : ℤ)
     → task ≡ task_name file → plan inputs.files task ≡ front ++ file ∷ []
-    → AreTaken inputs (plan inputs.files task) old takes done [] → new ≡ after_takes done old → Some value ≡ latest_value done → IsValue task old new done [] value
-last_value inputs task file front old new takes [] value name ends taken out last = cc
-last_value inputs task file front old new takes (take ∷ earlier) value name ends taken out last =
+    → AreTaken inputs (plan inputs.files task) numbers old takes done [] → new ≡ after_takes done old → Some value ≡ latest_value done → IsValue task old new done [] value
+last_value inputs task file front numbers old new takes [] value name ends taken out last = cc
+last_value inputs task file front numbers old new takes (take ∷ earlier) value name ends taken out last =
     let names : reverse (map task_of earlier) ++ take.task ∷ [] ≡ map task_name front ++ task_name file ∷ [] =
     sym (reverse-cons take.task (map task_of earlier)) ∙ sym (append-nil (reverse (map task_of (take ∷ earlier)))) ∙ taken.in_order ∙ ap (map task_name) ends ∙ map-append task_name front (file ∷ []) in
     let same : take.task ≡ task = (same_from_push (reverse (map task_of earlier)) (map task_name front) take.task (task_name file) names).1 ∙ sym name in
@@ -92,12 +93,12 @@ last_value inputs task file front old new takes (take ∷ earlier) value name en
 value_is : (value own : ℤ) → Value own ≡ Value value → own ≡ value
 value_is value own e = cc
 
-pub walked_evaluated : (inputs : Record) (task : List ℕ) (file : TaskFile) (planned : List TaskFile) (before now : ℕ) (old new : Option Files) (takes : List (List ℕ × Found)) (value : ℤ)
+pub walked_evaluated : (inputs : Record) (task : List ℕ) (file : TaskFile) (planned : List TaskFile) (before now : ℕ) (numbers numbers_now : Numbers) (old new : Option Files) (takes : List (List ℕ × Found)) (value : ℤ)
     → planned ≡ plan inputs.files task → refusal_of_build inputs.files ≡ None → task_in inputs.files task ≡ Some file
-    → IsWalked inputs planned old new takes [] (Some value) → IsEvaluated inputs task before now old new (Value value) takes
-walked_evaluated inputs task file planned before now old new takes value is accepted known walked =
+    → IsWalked inputs planned numbers numbers_now old new takes [] (Some value) → IsEvaluated inputs task before now numbers old new (Value value) takes
+walked_evaluated inputs task file planned before now numbers numbers_now old new takes value is accepted known walked =
     let ends = plan-last inputs.files task file accepted known in
-    let taken : AreTaken inputs (plan inputs.files task) old takes walked.done [] = subst (λ p. AreTaken inputs p old takes walked.done []) is walked.taken in
+    let taken : AreTaken inputs (plan inputs.files task) numbers old takes walked.done [] = subst (λ p. AreTaken inputs p numbers old takes walked.done []) is walked.taken in
     record {
       evaluated = tt;
       cause = λ e. cc;
@@ -105,19 +106,19 @@ walked_evaluated inputs task file planned before now old new takes value is acce
       rest = [];
       taken = taken;
       value = λ v e. subst (IsValue task old new walked.done []) (value_is v value e)
-          (last_value inputs task file ends.0 old new takes walked.done value (task_is inputs.files task file known).0 ends.1 taken walked.out walked.value_is);
+          (last_value inputs task file ends.0 numbers old new takes walked.done value (task_is inputs.files task file known).0 ends.1 taken walked.out walked.value_is);
       left = subst (λ content. MayLeave walked.done old content) (sym walked.out) (whole_takes walked.done old);
     }
 
-pub stopped_evaluated : (inputs : Record) (task : List ℕ) (planned : List TaskFile) (before now : ℕ) (old new : Option Files) (reply : Reply) (takes : List (List ℕ × Found))
+pub stopped_evaluated : (inputs : Record) (task : List ℕ) (planned : List TaskFile) (before now : ℕ) (numbers numbers_now : Numbers) (old new : Option Files) (reply : Reply) (takes : List (List ℕ × Found))
     → planned ≡ plan inputs.files task → IsEvaluation reply → (reply ≡ StoreFault → Rose before now) → ((value : ℤ) → reply ≢ Value value)
-    → IsStopped inputs planned old new takes → IsEvaluated inputs task before now old new reply takes
-stopped_evaluated inputs task planned before now old new reply takes is evaluated cause no_value stopped = record {
+    → IsStopped inputs planned numbers numbers_now old new takes → IsEvaluated inputs task before now numbers old new reply takes
+stopped_evaluated inputs task planned before now numbers numbers_now old new reply takes is evaluated cause no_value stopped = record {
   evaluated = evaluated;
   cause = cause;
   done = stopped.done;
   rest = stopped.rest;
-  taken = subst (λ p. AreTaken inputs p old takes stopped.done stopped.rest) is stopped.taken;
+  taken = subst (λ p. AreTaken inputs p numbers old takes stopped.done stopped.rest) is stopped.taken;
   value = λ value e. absurd (no_value value e);
   left = stopped.left;
 }
@@ -135,9 +136,9 @@ none_taken [] names name last e = empty_push names name e
 none_taken (take ∷ earlier) names name last e = let differ : true ≡ false = ap is_none last in absurd (false≢true (sym differ))
 
 -- a plan that is walked to its end has a value
-pub walked_some : (inputs : Record) (task : List ℕ) (file : TaskFile) (planned : List TaskFile) (old new : Option Files) (takes : List (List ℕ × Found))
-    → planned ≡ plan inputs.files task → refusal_of_build inputs.files ≡ None → task_in inputs.files task ≡ Some file → IsWalked inputs planned old new takes [] None → ⊥
-walked_some inputs task file planned old new takes is accepted known walked =
+pub walked_some : (inputs : Record) (task : List ℕ) (file : TaskFile) (planned : List TaskFile) (numbers numbers_now : Numbers) (old new : Option Files) (takes : List (List ℕ × Found))
+    → planned ≡ plan inputs.files task → refusal_of_build inputs.files ≡ None → task_in inputs.files task ≡ Some file → IsWalked inputs planned numbers numbers_now old new takes [] None → ⊥
+walked_some inputs task file planned numbers numbers_now old new takes is accepted known walked =
     let ends = plan-last inputs.files task file accepted known in
     none_taken walked.done (map task_name ends.0) (task_name file) walked.value_is (walked.taken.in_order ∙ ap (map task_name) (is ∙ ends.1) ∙ map-append task_name ends.0 (file ∷ []))
 

@@ -11,11 +11,15 @@ pub mod ScratchLaws
 pub mod SendingLaws
 pub mod ReadingLaws
 pub mod PathLaws
+pub mod TreeLaws
 pub mod EntryLaws
+pub mod NumberLaws
 pub mod TakingLaws
 pub mod InputLaws
 pub mod WalkLaws
+pub mod RowLaws
 pub mod ValueLaws
 pub mod StandingLaws
+pub mod PlannedLaws
 pub mod AnswerLaws
 pub mod TopLaws

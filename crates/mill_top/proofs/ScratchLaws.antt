@@ -124,37 +124,37 @@ unfolding result_of
 result-fits (Constant value) given fits = fits
 result-fits (Linked input operation value) given fits = apply-fits operation (unwrap_or given (pos 0)) value
 
-body-fits : (body : Body) (given : Option ℤ) (value : ℤ) (log : List ℕ) → ConstantFits body → Some (Returns (result_of body given) []) ≡ Some (Returns value log)
+body-fits : (body : Body) (given : Option ℤ) (value : ℤ) (log : List (List ℕ)) → ConstantFits body → Some (Returns (result_of body given) []) ≡ Some (Returns value log)
     → FitsSigned w32 value
 body-fits body given value log fits e = let same : result_of body given ≡ value = cc in subst (FitsSigned w32) same (result-fits body given fits)
 
-linked-fits : (input : ℕ) (operation : Operation) (own : ℤ) (given : Option Outcome) (value : ℤ) (log : List ℕ) → FitsSigned w32 own
+linked-fits : (input : ℕ) (operation : Operation) (own : ℤ) (given : Option Outcome) (value : ℤ) (log : List (List ℕ)) → FitsSigned w32 own
     → option_map (λ (o : Outcome). Returns (result_of (Linked input operation own) (Some (value_of o))) []) given ≡ Some (Returns value log) → FitsSigned w32 value
 linked-fits input operation own None value log fits e = cc
 linked-fits input operation own (Some outcome) value log fits e = body-fits (Linked input operation own) (Some (value_of outcome)) value log fits e
 
-outcome-fits : (body : Body) (outcomes : ℕ → Option Outcome) (value : ℤ) (log : List ℕ) → ConstantFits body → outcome_of body outcomes ≡ Some (Returns value log)
+outcome-fits : (body : Body) (outcomes : ℕ → Option Outcome) (value : ℤ) (log : List (List ℕ)) → ConstantFits body → outcome_of body outcomes ≡ Some (Returns value log)
     → FitsSigned w32 value
 outcome-fits (Constant own) outcomes value log fits e = body-fits (Constant own) None value log fits e
 outcome-fits (Linked input operation own) outcomes value log fits e = linked-fits input operation own (outcomes input) value log fits e
 
-fits-by : (n : ℕ) (files : Files) (task : ℕ) (found : Option TaskFile) (value : ℤ) (log : List ℕ) → file_with (build_graph files) task ≡ found
+fits-by : (n : ℕ) (files : Files) (task : ℕ) (found : Option TaskFile) (value : ℤ) (log : List (List ℕ)) → file_with (build_graph files) task ≡ found
     → scratch_of (suc n) (build_graph files) task ≡ Some (Returns value log) → FitsSigned w32 value
 fits-by n files task None value log has e = let none = scratch-absent (suc n) (build_graph files) task has in cc
 fits-by n files task (Some file) value log has e =
     let within = known-within files task file has in
     outcome-fits file.body (scratch_of n (build_graph files)) value log within.fits (sym (scratch-file n (build_graph files) task file has) ∙ e)
 
-fits-at : (n : ℕ) (files : Files) (task : ℕ) (value : ℤ) (log : List ℕ) → scratch_of n (build_graph files) task ≡ Some (Returns value log) → FitsSigned w32 value
+fits-at : (n : ℕ) (files : Files) (task : ℕ) (value : ℤ) (log : List (List ℕ)) → scratch_of n (build_graph files) task ≡ Some (Returns value log) → FitsSigned w32 value
 fits-at zero files task value log e = cc
 fits-at (suc n) files task value log e = fits-by n files task (file_with (build_graph files) task) value log refl e
 
-named-fits : (files : Files) (task : List ℕ) (value : ℤ) (log : List ℕ) → scratch_in (build_graph files) task ≡ Some (Returns value log) → FitsSigned w32 value
+named-fits : (files : Files) (task : List ℕ) (value : ℤ) (log : List (List ℕ)) → scratch_in (build_graph files) task ≡ Some (Returns value log) → FitsSigned w32 value
 named-fits files [] value log e = cc
 named-fits files (task ∷ []) value log e = fits-at (length (build_graph files)) files task value log e
 named-fits files (task ∷ next ∷ rest) value log e = cc
 
 -- a value from scratch is an int of 32 bits
-pub scratch_fits : (inputs : Record) (task : List ℕ) (value : ℤ) (log : List ℕ) → scratch inputs task ≡ Some (Returns value log) → FitsSigned w32 value
+pub scratch_fits : (inputs : Record) (task : List ℕ) (value : ℤ) (log : List (List ℕ)) → scratch inputs task ≡ Some (Returns value log) → FitsSigned w32 value
 unfolding scratch
 scratch_fits inputs task value log e = named-fits inputs.files task value log e

@@ -4,8 +4,10 @@ use Rattle.std.specs.Option.{option_map}
 use Rattle.std.specs.List.{AllByRecursion, filter_map}
 use Rattle.std.specs.Str.{bytes_eq}
 use Rattle.std.proofs.lemmas.Slice.Eq.{bytes_eq-Decides}
-use Rattle.io_traits.specs.Files.{Files, get}
-use Rattle.value_text.specs.Short.{int}
+use Rattle.io_traits.specs.Files.{Files}
+use Rattle.value_text.specs.Short.{as_short, int}
+use Rattle.out_store.specs.Standing.{Stands}
+use Rattle.out_store.specs.declared.numbers.Numbers.{Numbers}
 use Rattle.mill_top.specs.declared.outcome.Outcome.{Outcome}
 use Rattle.mill_top.specs.declared.outcome.Outcome.TheVariants.{Returns}
 use Rattle.mill_top.specs.declared.recorded.Record.{Record}
@@ -15,17 +17,17 @@ use Rattle.mill_top.specs.declared.task_file.Body.{Body}
 use Rattle.mill_top.specs.declared.task_file.Body.TheVariants.{Constant, Linked}
 use Rattle.mill_top.specs.declared.task_file.TaskFile.{TaskFile}
 use Rattle.mill_top.specs.Graphs.{task_in, refusal_of_build, inputs_of}
-use Rattle.mill_top.specs.Entries.{entry_name, entry_at}
 use Rattle.mill_top.specs.Inputs.{input_names, input_hash, scratch_values, Run, texts, Clean, IsDigested}
 use Rattle.mill_top.specs.Scratch.{scratch, result_of, outcome_of, value_of}
-use Rattle.mill_top.specs.Standing.{Stands}
+use Rattle.mill_top.specs.Standing.{rows_of}
 use Rattle.mill_top.specs.Takes.{Why, Take, task_of, given, outcome_over, IsGivenBy, IsTakeOf, IsGiven, AreGiven}
+use Rattle.mill_top.proofs.RowLaws.{holds_int, run_of_row}
 use Rattle.mill_top.proofs.ScratchLaws.{task-scratch}
 use Rattle.mill_top.proofs.InputLaws.{same_scratch}
 
 -- the task of a take has its value from scratch
 abbrev pub HasScratch : Record → Take → Type 0
-HasScratch inputs take = (log : List ℕ) × (scratch inputs take.task ≡ Some (Returns take.value log))
+HasScratch inputs take = (log : List (List ℕ)) × (scratch inputs take.task ≡ Some (Returns take.value log))
 
 abbrev pub AreScratch : Record → List Take → Type 0
 AreScratch inputs [] = Unit {0}
@@ -105,49 +107,51 @@ scratch_over inputs task values outcome accepted over e =
 
 -- the outcome of a take, from scratch
 take_scratch : (files : Files) (runs all : List Run) (lost : List (List ℕ)) (inputs : Record) (task : List ℕ) (outcome : Outcome) (found : Found) (value : ℤ)
-    → Stands files runs lost → Clean (flat_map texts all) → Contains all (record { inputs = inputs; task = task }) → ((run : Run) → Contains runs run → Contains all run)
+    → Stands files (rows_of runs) lost → Clean (flat_map texts all) → Contains all (record { inputs = inputs; task = task }) → ((run : Run) → Contains runs run → Contains all run)
     → IsDigested inputs task (scratch_values inputs task) → scratch inputs task ≡ Some outcome
-    → Why task (input_hash inputs task (scratch_values inputs task)) (get files (entry_name task)) found
-    → IsGivenBy task found (entry_at (Some files) task) outcome value
-    → (log : List ℕ) × (scratch inputs task ≡ Some (Returns value log))
+    → Why files task (input_hash inputs task (scratch_values inputs task)) found
+    → IsGivenBy (Some files) task found outcome value
+    → (log : List (List ℕ)) × (scratch inputs task ≡ Some (Returns value log))
 take_scratch files runs all lost inputs task outcome Missing value stands clean here more digested is why gives = (gives.0, is ∙ ap (λ o. Some o) gives.1)
 take_scratch files runs all lost inputs task outcome (Other d) value stands clean here more digested is why gives = (gives.0, is ∙ ap (λ o. Some o) gives.1)
 take_scratch files runs all lost inputs task outcome (Same d) value stands clean here more digested is why gives =
     let entry = gives.0 in
-    let own = stands.entries task entry gives.1.readable in
-    let run : Run = own.0 in
+    let found = stands.entries task entry gives.1.reads in
+    let own = run_of_row runs found.0 found.1 in
+    let run : Run = own.run in
     let this : Run = record { inputs = inputs; task = task } in
-    let hash : input_hash inputs task (scratch_values inputs task) ≡ input_hash run.inputs run.task (scratch_values run.inputs run.task) = sym why.0 ∙ sym gives.2 ∙ own.3.input in
-    let same = same_scratch all this run clean here (more run own.1) digested (sym own.2) hash in
-    let shorts : int own.3.value ≡ int value = sym own.3.holds ∙ gives.1.holds in
-    let values : own.3.value ≡ value = cc in
-    (own.3.log, same ∙ own.3.returns ∙ ap (λ v. Some (Returns v own.3.log)) values)
+    let same_task : run.task ≡ task = sym own.task ∙ sym found.2.task ∙ gives.1.reads.own in
+    let hash : input_hash inputs task (scratch_values inputs task) ≡ input_hash run.inputs run.task (scratch_values run.inputs run.task) = sym why.0 ∙ sym gives.2 ∙ found.2.input ∙ own.input in
+    let same = same_scratch all this run clean here (more run own.among) digested (sym same_task) hash in
+    let shorts : int own.number ≡ int value = sym (holds_int own.number) ∙ ap as_short (sym (found.2.value ∙ own.value)) ∙ gives.1.holds in
+    let values : own.number ≡ value = cc in
+    (own.log, same ∙ own.returns ∙ ap (λ v. Some (Returns v own.log)) values)
 
-one_scratch : (files : Files) (runs all : List Run) (lost : List (List ℕ)) (inputs : Record) (earlier : List Take) (take : Take) → refusal_of_build inputs.files ≡ None
-    → Stands files runs lost → Clean (flat_map texts all) → Contains all (record { inputs = inputs; task = take.task }) → ((run : Run) → Contains runs run → Contains all run)
-    → IsGiven inputs (Some files) earlier take → AreScratch inputs earlier → HasScratch inputs take
-one_scratch files runs all lost inputs earlier take accepted stands clean here more given scratches =
+one_scratch : (files : Files) (runs all : List Run) (lost : List (List ℕ)) (inputs : Record) (numbers : Numbers) (earlier : List Take) (take : Take) → refusal_of_build inputs.files ≡ None
+    → Stands files (rows_of runs) lost → Clean (flat_map texts all) → Contains all (record { inputs = inputs; task = take.task }) → ((run : Run) → Contains runs run → Contains all run)
+    → IsGiven inputs numbers (Some files) earlier take → AreScratch inputs earlier → HasScratch inputs take
+one_scratch files runs all lost inputs numbers earlier take accepted stands clean here more given scratches =
     let task = take.task in
     let from : map (scratch_value inputs) (input_names inputs.files task) ≡ map (λ value. Some value) given.values = values_scratch inputs earlier (input_names inputs.files task) given.values scratches given.values_are in
     let values : given.values ≡ scratch_values inputs task = sym (scratch_values_are inputs task given.values from) in
     let is = scratch_over inputs task given.values given.outcome accepted given.outcome_is from in
     let digested = subst (IsDigested inputs task) values given.digested in
-    let why = subst (λ vs. Why task (input_hash inputs task vs) (get files (entry_name task)) take.found) values given.is_take.why in
+    let why = subst (λ vs. Why files task (input_hash inputs task vs) take.found) values given.is_take.why in
     take_scratch files runs all lost inputs task given.outcome take.found take.value stands clean here more digested is why given.is_take.value
 
 -- the values of takes are those from scratch
-pub all_scratch : (files : Files) (runs all : List Run) (lost : List (List ℕ)) (inputs : Record) (done : List Take) → refusal_of_build inputs.files ≡ None
-    → Stands files runs lost → Clean (flat_map texts all) → AllByRecursion (λ task. Contains all (record { inputs = inputs; task = task })) (map task_of done)
-    → ((run : Run) → Contains runs run → Contains all run) → AreGiven inputs (Some files) done → AreScratch inputs done
-all_scratch files runs all lost inputs [] accepted stands clean here more given = tt
-all_scratch files runs all lost inputs (take ∷ earlier) accepted stands clean here more given =
-    let scratches = all_scratch files runs all lost inputs earlier accepted stands clean here.1 more given.1 in
-    (one_scratch files runs all lost inputs earlier take accepted stands clean here.0 more given.0 scratches, scratches)
+pub all_scratch : (files : Files) (runs all : List Run) (lost : List (List ℕ)) (inputs : Record) (numbers : Numbers) (done : List Take) → refusal_of_build inputs.files ≡ None
+    → Stands files (rows_of runs) lost → Clean (flat_map texts all) → AllByRecursion (λ task. Contains all (record { inputs = inputs; task = task })) (map task_of done)
+    → ((run : Run) → Contains runs run → Contains all run) → AreGiven inputs numbers (Some files) done → AreScratch inputs done
+all_scratch files runs all lost inputs numbers [] accepted stands clean here more given = tt
+all_scratch files runs all lost inputs numbers (take ∷ earlier) accepted stands clean here more given =
+    let scratches = all_scratch files runs all lost inputs numbers earlier accepted stands clean here.1 more given.1 in
+    (one_scratch files runs all lost inputs numbers earlier take accepted stands clean here.0 more given.0 scratches, scratches)
 
 -- the values behind an input hash of a take are those from scratch
-pub input_scratch : (inputs : Record) (content : Option Files) (earlier : List Take) (take : Take) → IsGiven inputs content earlier take → AreScratch inputs earlier
+pub input_scratch : (inputs : Record) (numbers : Numbers) (content : Option Files) (earlier : List Take) (take : Take) → IsGiven inputs numbers content earlier take → AreScratch inputs earlier
     → take.input ≡ input_hash inputs take.task (scratch_values inputs take.task)
-input_scratch inputs content earlier take given scratches =
+input_scratch inputs numbers content earlier take given scratches =
     let task = take.task in
     let from = values_scratch inputs earlier (input_names inputs.files task) given.values scratches given.values_are in
     given.is_take.input_is ∙ ap (input_hash inputs task) (sym (scratch_values_are inputs task given.values from))

@@ -2,6 +2,8 @@
 use Rattle.std.specs.Prelude.{◌≡◌, ◌⊎◌, ℕ, ℤ, List, [], ◌++◌, map, reverse, flat_map, Option, Some, None, IfSome, IfNone, MatchOption}
 use Rattle.io_traits.specs.Causes.{Rose}
 use Rattle.io_traits.specs.Files.{Files}
+use Rattle.out_store.specs.Opening.{IsOpened, LeftByOpening}
+use Rattle.out_store.specs.declared.numbers.Numbers.{Numbers}
 use Rattle.mill_top.specs.declared.recorded.Record.{Record}
 use Rattle.mill_top.specs.declared.reply.Reply.{Reply}
 use Rattle.mill_top.specs.declared.reply.Reply.TheVariants.{Value, WordsNotBuilt, StoreFault, WorkspaceFault, Memory}
@@ -11,7 +13,7 @@ use Rattle.mill_top.specs.Words.{asked}
 use Rattle.mill_top.specs.Graphs.{plan, task_name}
 use Rattle.mill_top.specs.Inputs.{Run, texts}
 use Rattle.mill_top.specs.Takes.{Take, task_of, seen, given, AreGiven, runs_of}
-use Rattle.mill_top.specs.Out.{after_takes, MayLeave}
+use Rattle.mill_top.specs.Leaving.{after_takes, MayLeave}
 use Rattle.mill_top.specs.Replies.{refusal, reply_of}
 
 -- the reply is this one, or memory was wanted
@@ -25,13 +27,35 @@ pub record IsRecordOf (words : List (List ℕ)) (environment : List (List ℕ ×
   pub same_moment : inputs.moment ≡ moment
   pub files : IfSome workspace (λ files. inputs.files ≡ files)
 
--- The reply to a command without a record: its words are refused, or the workspace failed. The store is as it was.
-pub record IsUnread (words : List (List ℕ)) (before now : ℕ) (old new : Option Files) (reply : Reply) (takes : List (List ℕ × Found)) : Type 0 where
-  pub refused : IfNone (asked words) (IsUnlessMemory reply WordsNotBuilt)
-  pub failed : IfSome (asked words) (λ task. IsUnlessMemory reply WorkspaceFault)
-  pub cause : reply ≡ WorkspaceFault → Rose before now
-  pub nothing_taken : takes ≡ []
+-- Words that ask for no task. No device was called, and the store is as it was.
+pub record AreRefused (workspace_before workspace_now : ℕ) (old new : Option Files) (reply : Reply) : Type 0 where
+  pub reply_is : IsUnlessMemory reply WordsNotBuilt
+  pub unread : workspace_now ≡ workspace_before
   pub out : new ≡ old
+
+-- The opening of the store was refused, and the workspace wasn't read.
+pub record IsUnopened (before now workspace_before workspace_now : ℕ) (old new : Option Files) (reply : Reply) : Type 0 where
+  pub reply_is : IsUnlessMemory reply StoreFault
+  pub cause : reply ≡ StoreFault → Rose before now
+  pub unread : workspace_now ≡ workspace_before
+  pub out : LeftByOpening old new
+
+-- The workspace failed, and the store is as it was.
+pub record IsUnfound (workspace_before workspace_now : ℕ) (old new : Option Files) (reply : Reply) : Type 0 where
+  pub reply_is : IsUnlessMemory reply WorkspaceFault
+  pub cause : reply ≡ WorkspaceFault → Rose workspace_before workspace_now
+  pub out : new ≡ old
+
+-- The store was opened, and then the workspace failed.
+abbrev pub IsOpenedAlone : (workspace_before workspace_now : ℕ) → (old new : Option Files) → Reply → Type 0
+IsOpenedAlone workspace_before workspace_now old new reply =
+    (numbers : Numbers) × (opened : Option Files) × IsOpened old opened numbers × IsUnfound workspace_before workspace_now opened new reply
+
+-- The reply to a command without a record: its words are refused, or the opening of the store, or the workspace failed.
+pub record IsUnread (words : List (List ℕ)) (before now workspace_before workspace_now : ℕ) (old new : Option Files) (reply : Reply) (takes : List (List ℕ × Found)) : Type 0 where
+  pub nothing_taken : takes ≡ []
+  pub refused : IfNone (asked words) (AreRefused workspace_before workspace_now old new reply)
+  pub failed : IfSome (asked words) (λ task. IsUnopened before now workspace_before workspace_now old new reply ⊎ IsOpenedAlone workspace_before workspace_now old new reply)
 
 -- a value, or the store failed, or memory was wanted
 abbrev pub IsEvaluation : Reply → Type 0
@@ -46,10 +70,10 @@ pub record IsRefused (refused : Reply) (old new : Option Files) (reply : Reply) 
 
 -- The first tasks of a plan, in order, were taken, each with the reason that the content before all of them gives
 -- and with its value over those that the earlier ones gave. The takes stand here the latest first.
-pub record AreTaken (inputs : Record) (planned : List TaskFile) (old : Option Files) (takes : List (List ℕ × Found)) (done : List Take) (rest : List TaskFile) : Type 0 where
+pub record AreTaken (inputs : Record) (planned : List TaskFile) (numbers : Numbers) (old : Option Files) (takes : List (List ℕ × Found)) (done : List Take) (rest : List TaskFile) : Type 0 where
   pub all_seen : takes ≡ reverse (map seen done)
   pub in_order : reverse (map task_of done) ++ map task_name rest ≡ map task_name planned
-  pub are_given : AreGiven inputs old done
+  pub are_given : AreGiven inputs numbers old done
 
 -- a value is that which the takes gave for the task, all of the plan is done, and this is left
 pub record IsValue (task : List ℕ) (old new : Option Files) (done : List Take) (rest : List TaskFile) (value : ℤ) : Type 0 where
@@ -57,26 +81,31 @@ pub record IsValue (task : List ℕ) (old new : Option Files) (done : List Take)
   pub is_given : given done task ≡ Some value
   pub out : new ≡ after_takes done old
 
--- The reply to a command with a record that is not refused, where a store with these faults before and now and this
--- content, where it tells, kept the entries.
-pub record IsEvaluated (inputs : Record) (task : List ℕ) (before now : ℕ) (old new : Option Files) (reply : Reply) (takes : List (List ℕ × Found)) : Type 0 where
+-- The reply to a command with a record that is not refused, over an opened store with these numbers, which has these
+-- faults before and now and this content, where it tells.
+pub record IsEvaluated (inputs : Record) (task : List ℕ) (before now : ℕ) (numbers : Numbers) (old new : Option Files) (reply : Reply) (takes : List (List ℕ × Found)) : Type 0 where
   pub evaluated : IsEvaluation reply
   pub cause : reply ≡ StoreFault → Rose before now
   pub done : List Take
   pub rest : List TaskFile
-  pub taken : AreTaken inputs (plan inputs.files task) old takes done rest
+  pub taken : AreTaken inputs (plan inputs.files task) numbers old takes done rest
   pub value : (value : ℤ) → reply ≡ Value value → IsValue task old new done rest value
   pub left : MayLeave done old new
 
--- the reply to a command with a record
-abbrev pub IsAnswer : Record → List ℕ → (before now : ℕ) → (old new : Option Files) → Reply → List (List ℕ × Found) → Type 0
-IsAnswer inputs task before now old new reply takes =
-    MatchOption (refusal inputs task) (IsEvaluated inputs task before now old new reply takes) (λ refused. IsRefused refused old new reply takes)
+-- the reply to a command with a record, over an opened store
+abbrev pub IsAnswer : Record → List ℕ → (before now : ℕ) → Numbers → (old new : Option Files) → Reply → List (List ℕ × Found) → Type 0
+IsAnswer inputs task before now numbers old new reply takes =
+    MatchOption (refusal inputs task) (IsEvaluated inputs task before now numbers old new reply takes) (λ refused. IsRefused refused old new reply takes)
 
--- the answer to words that ask for a task
-abbrev pub IsAnswerTo : List (List ℕ) → Record → (before now : ℕ) → (old new : Option Files) → Reply → List (List ℕ × Found) → Type 0
-IsAnswerTo words inputs before now old new reply takes =
-    (task : List ℕ) × (asked words ≡ Some task) × IsAnswer inputs task before now old new reply takes
+-- The answer to words that ask for a task: the store was opened, and the answer is over what it then held and over the
+-- numbers of the generations that its entries published.
+pub record IsAnswerTo (words : List (List ℕ)) (inputs : Record) (before now : ℕ) (old new : Option Files) (reply : Reply) (takes : List (List ℕ × Found)) : Type 0 where
+  pub task : List ℕ
+  pub asks : asked words ≡ Some task
+  pub numbers : Numbers
+  pub opened : Option Files
+  pub opening : IsOpened old opened numbers
+  pub answer : IsAnswer inputs task before now numbers opened new reply takes
 
 -- the runs of a command, if it has a record
 abbrev pub runs_in : Option Record → List (List ℕ × Found) → List Run

@@ -7,10 +7,9 @@ pub mod Words
 pub mod Builds
 pub mod Scratch
 pub mod Inputs
-pub mod Entries
 pub mod Takes
 pub mod Replies
 pub mod Standing
-pub mod Out
+pub mod Leaving
 pub mod Answers
 pub mod Walks

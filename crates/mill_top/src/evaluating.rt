@@ -1,14 +1,17 @@
 //! Evaluating a plan: its tasks are taken one after another.
 
-ghost use Rattle.std.specs.Prelude.{◌≡◌, ◌≢◌, ◌≤◌, ◌∷◌, [], ℤ, Some, None, IfOk, IfSome, OnOk, OnErr, option_to_list, FitsSigned};
+ghost use Rattle.std.specs.Prelude.{◌≡◌, ◌≢◌, ◌≤◌, ◌++◌, ◌∷◌, [], ℕ, ℤ, List, Some, None, IfOk, IfSome, OnOk, OnErr, option_to_list, FitsSigned};
 ghost use Rattle.std.specs.Int.{w32};
-ghost use Rattle.io_traits.specs.Causes.{HasCause};
+ghost use Rattle.out_store.specs.Faults.{HasCause};
 ghost use Rattle.mill_top.specs.Chains.{IsChain};
 ghost use Rattle.mill_top.specs.Graphs.{task_in, task_name, plan};
-ghost use Rattle.mill_top.specs.Inputs.{input_hash, IsDigested};
+ghost use Rattle.mill_top.specs.Inputs.{Run, Clean, input_hash, IsDigested};
 ghost use Rattle.mill_top.specs.Replies.{refusal};
-ghost use Rattle.mill_top.specs.Walks.{IsFileStep, IsWalked, IsStopped};
-ghost use Rattle.mill_top.specs.Answers.{IsAnswer, IsEvaluation};
+ghost use Rattle.mill_top.specs.Walks.{HasNext, IsReady, IsFileStep, IsWalked, IsStopped};
+ghost use Rattle.mill_top.specs.Answers.{IsAnswer, IsEvaluation, all_texts};
+ghost use Rattle.mill_top.specs.Standing.{StandsIn};
+ghost use Rattle.mill_top.specs.Takes.{runs_of};
+ghost use Rattle.mill_top.specs.Words.{asked};
 
 use crate::inputs::input_hash;
 use crate::recorded::Record;
@@ -16,7 +19,8 @@ use crate::reply::Reply;
 use crate::takes::Takes;
 use crate::taking::{Job, take};
 use crate::task_file::TaskFile;
-use io_traits::{IoFault, Store};
+use io_traits::Store;
+use out_store::{Out, OutFault};
 use std::alloc::Global;
 use tree_value::{CopyFault, Text, TextFault};
 
@@ -40,14 +44,14 @@ impl Taken {
 }
 
 // The reply where the store refused a call.
-fn store_reply(fault: IoFault) -> Reply
+pub(crate) fn store_reply(fault: OutFault) -> Reply
     ensures reply { IsEvaluation result }
-    ensures cause { result ≡ Reply.StoreFault → fault ≡ IoFault.Failed }
+    ensures cause { result ≡ Reply.StoreFault → fault ≡ OutFault.Fault }
     ensures no_value { (value : ℤ) → result ≢ Reply.Value value }
 {
     match fault {
-        IoFault::Failed => Reply::StoreFault,
-        IoFault::Memory => Reply::Memory,
+        OutFault::Fault => Reply::StoreFault,
+        OutFault::Memory => Reply::Memory,
     }
 }
 
@@ -93,19 +97,20 @@ fn take_file<S: Store>(
     inputs: &Record,
     file: TaskFile,
     given: Option<i32>,
-    store: &mut S,
+    out: &mut Out<S>,
     takes: &mut Takes,
-) -> Result<i32, IoFault>
+) -> Result<i32, OutFault>
     requires known { task_in inputs.now.files (task_name file) ≡ Some file }
     requires low { 97 ≤ file.task }
     requires high { file.task ≤ 122 }
+    requires next { HasNext out.old.numbers (S.content out.old.store) (task_name file) }
     ensures fits { IfOk result (FitsSigned w32) }
-    ensures step { IsFileStep inputs.now file given (S.content store.old) (S.content store.new) result takes.old takes.new }
-    ensures cause { HasCause (S.faults store.old) (S.faults store.new) result }
-    ensures kept { S.kept store.new ≡ S.kept store.old }
+    ensures step { IsFileStep inputs.now file given out.old.numbers out.new.numbers (S.content out.old.store) (S.content out.new.store) result takes.old takes.new }
+    ensures cause { HasCause (S.faults out.old.store) (S.faults out.new.store) result }
+    ensures kept { S.kept out.new.store ≡ S.kept out.old.store }
 {
     let job = prepare(alloc, inputs, file, given)?;
-    take(alloc, &job, store, takes)
+    take(alloc, &job, out, takes)
 }
 
 // Each task is given the value of the one before it.
@@ -113,20 +118,21 @@ fn take_all<S: Store>(
     alloc: Global,
     inputs: &Record,
     plan: &[TaskFile],
-    store: &mut S,
+    out: &mut Out<S>,
     takes: &mut Takes,
-) -> Result<Option<i32>, IoFault>
+) -> Result<Option<i32>, OutFault>
     requires chain { IsChain inputs.now.files [] plan.now }
     requires empty { takes.old ≡ [] }
+    requires ready { IsReady out.old.numbers (S.content out.old.store) }
     ensures fits { IfOk result (λ value. IfSome value (FitsSigned w32)) }
-    ensures ok { IfOk result (λ value. IsWalked inputs.now plan.now (S.content store.old) (S.content store.new) takes.new [] value) }
-    ensures err { OnErr result (IsStopped inputs.now plan.now (S.content store.old) (S.content store.new) takes.new) }
-    ensures cause { HasCause (S.faults store.old) (S.faults store.new) result }
-    ensures kept { S.kept store.new ≡ S.kept store.old }
+    ensures ok { IfOk result (λ value. IsWalked inputs.now plan.now out.old.numbers out.new.numbers (S.content out.old.store) (S.content out.new.store) takes.new [] value) }
+    ensures err { OnErr result (IsStopped inputs.now plan.now out.old.numbers out.new.numbers (S.content out.old.store) (S.content out.new.store) takes.new) }
+    ensures cause { HasCause (S.faults out.old.store) (S.faults out.new.store) result }
+    ensures kept { S.kept out.new.store ≡ S.kept out.old.store }
 {
     let mut given = None;
     for file in plan {
-        given = Some(take_file(alloc, inputs, *file, given, store, takes)?);
+        given = Some(take_file(alloc, inputs, *file, given, out, takes)?);
     }
     Ok(given)
 }
@@ -137,15 +143,18 @@ pub fn evaluate<S: Store>(
     inputs: &Record,
     task: &Text,
     planned: &[TaskFile],
-    store: &mut S,
+    out: &mut Out<S>,
 ) -> Taken
+    requires asks { asked inputs.now.words ≡ Some task.now }
     requires accepted { refusal inputs.now task.now ≡ None }
     requires is_plan { planned.now ≡ plan inputs.now.files task.now }
-    ensures answer { IsAnswer inputs.now task.now (S.faults store.old) (S.faults store.new) (S.content store.old) (S.content store.new) result.reply result.takes }
-    ensures kept { S.kept store.new ≡ S.kept store.old }
+    requires ready { IsReady out.old.numbers (S.content out.old.store) }
+    ensures answer { IsAnswer inputs.now task.now (S.faults out.old.store) (S.faults out.new.store) out.old.numbers (S.content out.old.store) (S.content out.new.store) result.reply result.takes }
+    ensures stands { (runs : List Run) (lost : List (List ℕ)) → StandsIn (S.content out.old.store) runs lost → Clean (all_texts inputs.now runs) → StandsIn (S.content out.new.store) (runs ++ runs_of inputs.now result.takes) lost }
+    ensures kept { S.kept out.new.store ≡ S.kept out.old.store }
 {
     let mut takes = Takes::none(alloc);
-    match take_all(alloc, inputs, planned, store, &mut takes) {
+    match take_all(alloc, inputs, planned, out, &mut takes) {
         Ok(Some(value)) => Taken {
             reply: Reply::Value(value),
             takes,

@@ -1,12 +1,11 @@
 //! The program `mill`: it evaluates a build that is given as Java class files, keeps the results in `out` and reuses
 //! them. The top call is `mill_one` of the module `top`, over the traits of `io_traits`; this file makes the devices of
-//! `io_real` for it. It stands on `tree_value`, `value_text`, `out_entry`, `io_traits` and `io_real`, and on `sha2` and
-//! `hex`.
+//! `io_real` for it. It stands on `tree_value`, `value_text`, `out_entry`, `out_store`, `io_traits` and `io_real`, and on
+//! `sha2` and `hex`.
 #![tactic(auto)]
 
 mod build_fault;
 mod builds;
-mod entries;
 mod evaluating;
 mod graph;
 #[cfg(test)]
@@ -22,6 +21,8 @@ mod recorded;
 mod reply;
 mod sending;
 mod small_file;
+#[cfg(test)]
+mod store_tests;
 mod takes;
 mod taking;
 mod task_file;

@@ -1,24 +1,27 @@
-//! Taking a task: its entry is reused, or it is run and its log and entry are put.
+//! Taking a task: its entry is reused, or it is run and what the run gave is published.
 
-ghost use Rattle.std.specs.Prelude.{◌≡◌, ◌≢◌, ◌≤◌, ◌++◌, ◌∷◌, [], ℕ, ℤ, if◌then◌else◌, ◌==◌, IfOk, IfSome, IsNone, OnOk, OnErr, FitsSigned};
+ghost use Rattle.std.specs.Prelude.{◌≡◌, ◌≢◌, ◌++◌, ◌∷◌, [], ℕ, ℤ, IfOk, IfSome, IsNone, MatchResult, OnOk, OnErr, FitsSigned};
 ghost use Rattle.std.specs.Int.{w32};
-ghost use Rattle.io_traits.specs.Causes.{HasCause};
 ghost use Rattle.value_text.specs.Short.{as_short, int};
+ghost use Rattle.out_store.specs.Faults.{HasCause};
+ghost use Rattle.out_store.specs.Generations.{Reads};
+ghost use Rattle.out_store.specs.Names.{IsTaskName};
+ghost use Rattle.out_store.specs.Publishing.{LeftByPublish};
+ghost use Rattle.out_store.specs.Standing.{row_of};
 ghost use Rattle.mill_top.specs.declared.takes.Found.{Found};
-ghost use Rattle.mill_top.specs.Entries.{HasNames, entry_at, IsReadable, Reads};
 ghost use Rattle.mill_top.specs.Scratch.{result_of, value_of};
-ghost use Rattle.mill_top.specs.Takes.{Why, IsNew, IsNextGeneration};
-ghost use Rattle.mill_top.specs.Out.{log_of, entry_with, published, MayLeaveRun};
-ghost use Rattle.mill_top.specs.Walks.{IsStep};
+ghost use Rattle.mill_top.specs.Takes.{Why, IsNew};
+ghost use Rattle.mill_top.specs.Leaving.{finished_by};
+ghost use Rattle.mill_top.specs.Walks.{HasNext, IsPut, IsStep, LeavesStanding};
 
-use crate::entries::{entry, publish};
 use crate::outcome::{Outcome, run};
 use crate::takes::{Found, Takes};
 use crate::task_file::Body;
-use io_traits::{IoFault, Store};
+use io_traits::Store;
 use out_entry::Entry;
+use out_store::{Finished, Out, OutFault};
 use std::alloc::Global;
-use tree_value::{Digest, Sequence, Text, Value};
+use tree_value::{CopyFault, Digest, Text, Tree, Value};
 
 /// A task that is to be taken: its name, its input hash, its body, and the value of the body's input, if it has one.
 #[derive(Drop)]
@@ -46,40 +49,46 @@ fn int_of(value: &Value) -> Option<i32>
     }
 }
 
-// The least generation from 1 that isn't this one.
-fn next_to(generation: u32) -> u32
-    ensures { result ≡ (if generation == 1 then 2 else 1) }
+// A tree without files.
+fn no_files(alloc: Global) -> Tree
+    ensures { result ≡ [] }
 {
-    if generation == 1 { 2 } else { 1 }
+    match Tree::of(alloc, Vec::new(alloc)) {
+        Ok(tree) => tree,
+        Err(_) => unreachable!(),
+    }
 }
 
-// The outcome of a run is kept, and its value is given.
+// What the run of the task with this outcome gave.
+fn finish(alloc: Global, job: &Job, outcome: Outcome) -> Result<Finished, CopyFault>
+    ensures { IfOk result (λ finished. finished ≡ finished_by job.now.task job.now.input outcome) }
+{
+    let Outcome::Returns(value, log) = outcome;
+    Ok(Finished {
+        task: job.task.copy()?,
+        input: job.input,
+        value: Value::Int(value),
+        dest: no_files(alloc),
+        log,
+    })
+}
+
+// The outcome of a run is published.
 fn keep<S: Store>(
     alloc: Global,
     job: &Job,
-    generation: u32,
     outcome: Outcome,
-    store: &mut S,
-) -> Result<i32, IoFault>
-    requires names { HasNames job.now.task }
-    requires counted { 1 ≤ generation }
-    ensures fits { IfOk result (FitsSigned w32) }
-    ensures value { IfOk result (λ value. value ≡ value_of outcome) }
-    ensures ok { OnOk result (S.content store.new ≡ published (entry_with job.now.task job.now.input generation (value_of outcome)) (log_of outcome) (S.content store.old)) }
-    ensures err { OnErr result (MayLeaveRun (entry_with job.now.task job.now.input generation (value_of outcome)) (log_of outcome) (S.content store.old) (S.content store.new)) }
-    ensures cause { HasCause (S.faults store.old) (S.faults store.new) result }
-    ensures kept { S.kept store.new ≡ S.kept store.old }
+    out: &mut Out<S>,
+) -> Result<u32, OutFault>
+    requires { IsTaskName job.now.task }
+    ensures ok { IfOk result (IsPut (finished_by job.now.task job.now.input outcome) out.old.numbers out.new.numbers (S.content out.old.store) (S.content out.new.store)) }
+    ensures err { OnErr result (LeftByPublish (finished_by job.now.task job.now.input outcome) out.old.numbers out.new.numbers (S.content out.old.store) (S.content out.new.store)) }
+    ensures rows { LeavesStanding out.old.numbers out.new.numbers (S.content out.old.store) (S.content out.new.store) (row_of (finished_by job.now.task job.now.input outcome) ∷ []) }
+    ensures cause { HasCause (S.faults out.old.store) (S.faults out.new.store) result }
+    ensures kept { S.kept out.new.store ≡ S.kept out.old.store }
 {
-    let Outcome::Returns(value, log) = outcome;
-    let entry = Entry {
-        task: job.task.copy()?,
-        input: job.input,
-        generation,
-        files: Sequence::new(alloc),
-        value: Value::Int(value),
-    };
-    publish(alloc, store, &entry, &log)?;
-    Ok(value)
+    let finished = finish(alloc, job, outcome)?;
+    out.publish(&finished)
 }
 
 // The task is run.
@@ -87,61 +96,60 @@ fn run_task<S: Store>(
     alloc: Global,
     job: &Job,
     found: Found,
-    generation: u32,
-    store: &mut S,
+    out: &mut Out<S>,
     takes: &mut Takes,
-) -> Result<i32, IoFault>
-    requires names { HasNames job.now.task }
-    requires counted { 1 ≤ generation }
+) -> Result<i32, OutFault>
+    requires named { IsTaskName job.now.task }
     requires is_new { IsNew found }
-    requires why { IfSome (entry_at (S.content store.old) job.now.task) (λ there. Why job.now.task job.now.input there found) }
-    requires next { IfSome (entry_at (S.content store.old) job.now.task) (λ there. IsNextGeneration job.now.task there generation) }
+    requires why { IfSome (S.content out.old.store) (λ files. Why files job.now.task job.now.input found) }
+    requires next { HasNext out.old.numbers (S.content out.old.store) job.now.task }
     ensures fits { IfOk result (FitsSigned w32) }
-    ensures step { IsStep job.now.task job.now.input (Outcome.Returns (result_of job.now.body job.now.given) []) (S.content store.old) (S.content store.new) result takes.old takes.new }
-    ensures cause { HasCause (S.faults store.old) (S.faults store.new) result }
-    ensures kept { S.kept store.new ≡ S.kept store.old }
+    ensures step { IsStep job.now.task job.now.input (Outcome.Returns (result_of job.now.body job.now.given) []) out.old.numbers out.new.numbers (S.content out.old.store) (S.content out.new.store) result takes.old takes.new }
+    ensures cause { HasCause (S.faults out.old.store) (S.faults out.new.store) result }
+    ensures kept { S.kept out.new.store ≡ S.kept out.old.store }
 {
     takes.push(job.task.copy()?, found)?;
     let outcome = run(alloc, job.body, job.given);
-    keep(alloc, job, generation, outcome, store)
+    let value = outcome.value();
+    keep(alloc, job, outcome, out)?;
+    Ok(value)
 }
 
 // The value of the task's entry is reused.
-fn reuse(job: &Job, value: i32, takes: &mut Takes) -> Result<i32, IoFault>
+fn reuse(job: &Job, value: i32, takes: &mut Takes) -> Result<i32, OutFault>
     ensures fits { IfOk result (FitsSigned w32) }
     ensures value { IfOk result (λ reused. reused ≡ value) }
     ensures ok { OnOk result (takes.new ≡ takes.old ++ (job.now.task, Found.Same job.now.input) ∷ []) }
     ensures err { OnErr result (takes.new ≡ takes.old) }
-    ensures only_memory { result ≡ Err IoFault.Failed → ⊥ }
+    ensures only_memory { result ≡ Err OutFault.Fault → ⊥ }
 {
     takes.push(job.task.copy()?, Found::Same(job.input))?;
     Ok(value)
 }
 
-// The task has a readable entry.
+// The task has an entry that reads.
 fn take_over<S: Store>(
     alloc: Global,
     job: &Job,
     entry: &Entry,
-    store: &mut S,
+    out: &mut Out<S>,
     takes: &mut Takes,
-) -> Result<i32, IoFault>
-    requires names { HasNames job.now.task }
-    requires readable { IfSome (entry_at (S.content store.old) job.now.task) (λ there. IsReadable job.now.task there entry.now) }
+) -> Result<i32, OutFault>
+    requires named { IsTaskName job.now.task }
+    requires reads { IfSome (S.content out.old.store) (λ files. Reads files job.now.task entry.now) }
+    requires next { HasNext out.old.numbers (S.content out.old.store) job.now.task }
     ensures fits { IfOk result (FitsSigned w32) }
-    ensures step { IsStep job.now.task job.now.input (Outcome.Returns (result_of job.now.body job.now.given) []) (S.content store.old) (S.content store.new) result takes.old takes.new }
-    ensures cause { HasCause (S.faults store.old) (S.faults store.new) result }
-    ensures kept { S.kept store.new ≡ S.kept store.old }
+    ensures step { IsStep job.now.task job.now.input (Outcome.Returns (result_of job.now.body job.now.given) []) out.old.numbers out.new.numbers (S.content out.old.store) (S.content out.new.store) result takes.old takes.new }
+    ensures cause { HasCause (S.faults out.old.store) (S.faults out.new.store) result }
+    ensures kept { S.kept out.new.store ≡ S.kept out.old.store }
 {
-    let generation = next_to(entry.generation);
     match int_of(&entry.value) {
-        None => run_task(alloc, job, Found::Missing, generation, store, takes),
+        None => run_task(alloc, job, Found::Missing, out, takes),
         Some(value) => {
             if entry.input == job.input {
                 reuse(job, value, takes)
             } else {
-                let found = Found::Other(entry.input);
-                run_task(alloc, job, found, generation, store, takes)
+                run_task(alloc, job, Found::Other(entry.input), out, takes)
             }
         }
     }
@@ -151,17 +159,18 @@ fn take_over<S: Store>(
 pub fn take<S: Store>(
     alloc: Global,
     job: &Job,
-    store: &mut S,
+    out: &mut Out<S>,
     takes: &mut Takes,
-) -> Result<i32, IoFault>
-    requires { HasNames job.now.task }
+) -> Result<i32, OutFault>
+    requires named { IsTaskName job.now.task }
+    requires next { HasNext out.old.numbers (S.content out.old.store) job.now.task }
     ensures fits { IfOk result (FitsSigned w32) }
-    ensures step { IsStep job.now.task job.now.input (Outcome.Returns (result_of job.now.body job.now.given) []) (S.content store.old) (S.content store.new) result takes.old takes.new }
-    ensures cause { HasCause (S.faults store.old) (S.faults store.new) result }
-    ensures kept { S.kept store.new ≡ S.kept store.old }
+    ensures step { IsStep job.now.task job.now.input (Outcome.Returns (result_of job.now.body job.now.given) []) out.old.numbers out.new.numbers (S.content out.old.store) (S.content out.new.store) result takes.old takes.new }
+    ensures cause { HasCause (S.faults out.old.store) (S.faults out.new.store) result }
+    ensures kept { S.kept out.new.store ≡ S.kept out.old.store }
 {
-    match entry(alloc, store, &job.task)? {
-        Some(entry) => take_over(alloc, job, &entry, store, takes),
-        None => run_task(alloc, job, Found::Missing, 1, store, takes),
+    match out.entry(&job.task)? {
+        Some(entry) => take_over(alloc, job, &entry, out, takes),
+        None => run_task(alloc, job, Found::Missing, out, takes),
     }
 }

@@ -54,7 +54,7 @@ struct Seen {
     kept: Bytes,
 }
 
-fn class_file(alloc: Global, opcode: u8) -> Result<Bytes, Fail> {
+pub(crate) fn class_file(alloc: Global, opcode: u8) -> Result<Bytes, Fail> {
     let mut bytes = Vec::from_slice(alloc, &SMALL_TEMPLATE)?;
     if let Some(place) = bytes.get_mut(139) {
         *place = opcode;
@@ -62,7 +62,7 @@ fn class_file(alloc: Global, opcode: u8) -> Result<Bytes, Fail> {
     Ok(Bytes::from_vec(bytes))
 }
 
-fn one_file(alloc: Global, path: &str, bytes: &Bytes) -> Result<Contents, Fail> {
+pub(crate) fn one_file(alloc: Global, path: &str, bytes: &Bytes) -> Result<Contents, Fail> {
     let mut contents = Contents::new(alloc);
     contents.insert(&Path::of(alloc, path.as_bytes())?, bytes)?;
     Ok(contents)
@@ -92,7 +92,7 @@ fn sink(alloc: Global, case: &Case) -> Result<MemSink, Fail> {
     Ok(MemSink::new(alloc, nothing, vec![in alloc; case.sink_fails]?)?)
 }
 
-fn words(alloc: Global, task: &str) -> Result<Vec<Text>, Fail> {
+pub(crate) fn words(alloc: Global, task: &str) -> Result<Vec<Text>, Fail> {
     let mut words = Vec::new(alloc);
     for word in ["-j", "1", "show", task] {
         words.push(Text::of(alloc, word.as_bytes())?)?;
@@ -143,9 +143,9 @@ fn judge<R: Abort + AllocGlobal>(rt: &R, cases: &[(Case, u8, &str, &str)]) -> Re
 
 #[test]
 fn prints_the_constant_and_then_what_the_entry_says(rt: HostRuntime) -> Result<(), Fail> {
-    // A reuse has one call of the store, so that its second call is planned to fail.
+    // A reuse has three calls of the store, which lists and reads at the opening, so that its fourth is planned to fail.
     let reused = Case {
-        store_fails: 2,
+        store_fails: 4,
         kept: KEPT_5,
         ..SHOW_A
     };

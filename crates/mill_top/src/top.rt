@@ -8,10 +8,12 @@ ghost use Rattle.mill_top.specs.Words.{asked, explains};
 ghost use Rattle.mill_top.specs.Inputs.{Run, Clean};
 ghost use Rattle.mill_top.specs.Replies.{status, build_reply, refusal, printed, Shown};
 ghost use Rattle.mill_top.specs.Standing.{StandsIn};
-ghost use Rattle.mill_top.specs.Answers.{IsUnlessMemory, IsRecordOf, IsUnread, IsAnswer, IsAnswerTo, IsFromScratch, runs_in, all_texts, IsKept};
+ghost use Rattle.mill_top.specs.Takes.{runs_of};
+ghost use Rattle.mill_top.specs.Walks.{IsReady};
+ghost use Rattle.mill_top.specs.Answers.{IsUnlessMemory, IsRecordOf, IsUnfound, IsUnread, IsAnswer, IsAnswerTo, IsFromScratch, runs_in, all_texts, IsKept};
 
 use crate::build_fault::BuildFault;
-use crate::evaluating::{Taken, evaluate};
+use crate::evaluating::{Taken, evaluate, store_reply};
 use crate::graph::{Graph, graph_of};
 use crate::printing::printed;
 use crate::reading::read_files;
@@ -22,6 +24,7 @@ use crate::takes::Takes;
 use crate::task_file::TaskFile;
 use crate::words::{asked, explains};
 use io_traits::{IoFault, Sink, Store, Workspace};
+use out_store::Out;
 use std::alloc::Global;
 use tree_value::Text;
 
@@ -38,12 +41,13 @@ pub struct Told<S, W, K> {
     pub sink: K,
 }
 
-// The reply to a command, the tasks that were taken and the record.
+// The reply to a command, the tasks that were taken, the record, and the store.
 #[derive(Drop)]
-struct Answer {
+struct Answer<S> {
     reply: Reply,
     takes: Takes,
     inputs: Option<Record>,
+    store: S,
 }
 
 fn build_reply(fault: BuildFault) -> Reply
@@ -91,26 +95,33 @@ fn choose(alloc: Global, inputs: &Record, task: &Text) -> Result<Vec<TaskFile>, 
     }
 }
 
-fn taken<S: Store>(alloc: Global, inputs: &Record, task: &Text, store: &mut S) -> Taken
-    ensures answer { IsAnswer inputs.now task.now (S.faults store.old) (S.faults store.new) (S.content store.old) (S.content store.new) result.reply result.takes }
-    ensures kept { S.kept store.new ≡ S.kept store.old }
+fn taken<S: Store>(alloc: Global, inputs: &Record, task: &Text, out: &mut Out<S>) -> Taken
+    requires asks { asked inputs.now.words ≡ Some task.now }
+    requires ready { IsReady out.old.numbers (S.content out.old.store) }
+    ensures answer { IsAnswer inputs.now task.now (S.faults out.old.store) (S.faults out.new.store) out.old.numbers (S.content out.old.store) (S.content out.new.store) result.reply result.takes }
+    ensures stands { (runs : List Run) (lost : List (List ℕ)) → StandsIn (S.content out.old.store) runs lost → Clean (all_texts inputs.now runs) → StandsIn (S.content out.new.store) (runs ++ runs_of inputs.now result.takes) lost }
+    ensures kept { S.kept out.new.store ≡ S.kept out.old.store }
 {
     match choose(alloc, inputs, task) {
-        Ok(plan) => evaluate(alloc, inputs, task, plan.as_slice(), store),
+        Ok(plan) => evaluate(alloc, inputs, task, plan.as_slice(), out),
         Err(reply) => Taken::none(alloc, reply),
     }
 }
 
-fn judge<S: Store>(alloc: Global, inputs: Record, task: &Text, store: &mut S) -> Answer
+fn judge<S: Store>(alloc: Global, inputs: Record, task: &Text, mut out: Out<S>) -> Answer<S>
+    requires asks { asked inputs.words ≡ Some task.now }
+    requires ready { IsReady out.numbers (S.content out.store) }
     ensures inputs { result.inputs ≡ Some inputs }
-    ensures answer { IsAnswer inputs task.now (S.faults store.old) (S.faults store.new) (S.content store.old) (S.content store.new) result.reply result.takes }
-    ensures kept { S.kept store.new ≡ S.kept store.old }
+    ensures answer { IsAnswer inputs task.now (S.faults out.store) (S.faults result.store) out.numbers (S.content out.store) (S.content result.store) result.reply result.takes }
+    ensures stands { (runs : List Run) (lost : List (List ℕ)) → StandsIn (S.content out.store) runs lost → Clean (all_texts inputs runs) → StandsIn (S.content result.store) (runs ++ runs_of inputs result.takes) lost }
+    ensures kept { S.kept result.store ≡ S.kept out.store }
 {
-    let Taken { reply, takes } = taken(alloc, &inputs, task, store);
+    let Taken { reply, takes } = taken(alloc, &inputs, task, &mut out);
     Answer {
         reply,
         takes,
         inputs: Some(inputs),
+        store: out.end(),
     }
 }
 
@@ -135,13 +146,50 @@ fn read_record<W: Workspace>(
     })
 }
 
-fn unread(alloc: Global, reply: Reply) -> Answer
-    ensures { result ≡ record { reply = reply; takes = []; inputs = None } }
+fn unread<S>(alloc: Global, reply: Reply, store: S) -> Answer<S>
+    ensures { result ≡ record { reply = reply; takes = []; inputs = None; store = store } }
 {
     Answer {
         reply,
         takes: Takes::none(alloc),
         inputs: None,
+        store,
+    }
+}
+
+fn workspace_reply(fault: IoFault) -> Reply
+    ensures reply { IsUnlessMemory result Reply.WorkspaceFault }
+    ensures cause { result ≡ Reply.WorkspaceFault → fault ≡ IoFault.Failed }
+{
+    match fault {
+        IoFault::Failed => Reply::WorkspaceFault,
+        IoFault::Memory => Reply::Memory,
+    }
+}
+
+// The answer where the store is open.
+fn answer_opened<S: Store, W: Workspace>(
+    alloc: Global,
+    task: &Text,
+    words: &[Text],
+    environment: &[(Text, Text)],
+    moment: u64,
+    out: Out<S>,
+    workspace: &mut W,
+) -> Answer<S>
+    requires asks { asked words.now ≡ Some task.now }
+    requires ready { IsReady out.numbers (S.content out.store) }
+    ensures unread { IsNone result.inputs → IsUnfound (W.faults workspace.old) (W.faults workspace.new) (S.content out.store) (S.content result.store) result.reply × (result.takes ≡ []) }
+    ensures inputs { IfSome result.inputs (IsRecordOf words.now environment.now moment (W.content workspace.old)) }
+    ensures answer { IfSome result.inputs (λ inputs. IsAnswer inputs task.now (S.faults out.store) (S.faults result.store) out.numbers (S.content out.store) (S.content result.store) result.reply result.takes) }
+    ensures stands { (runs : List Run) (lost : List (List ℕ)) → StandsIn (S.content out.store) runs lost → IfSome result.inputs (λ inputs. Clean (all_texts inputs runs) → StandsIn (S.content result.store) (runs ++ runs_of inputs result.takes) lost) }
+    ensures workspace { W.content workspace.new ≡ W.content workspace.old }
+    ensures kept_store { S.kept result.store ≡ S.kept out.store }
+    ensures kept_workspace { W.kept workspace.new ≡ W.kept workspace.old }
+{
+    match read_record(alloc, words, environment, moment, workspace) {
+        Ok(inputs) => judge(alloc, inputs, task, out),
+        Err(fault) => unread(alloc, workspace_reply(fault), out.end()),
     }
 }
 
@@ -150,23 +198,23 @@ fn answer_words<S: Store, W: Workspace>(
     words: &[Text],
     environment: &[(Text, Text)],
     moment: u64,
-    store: &mut S,
+    store: S,
     workspace: &mut W,
-) -> Answer
-    ensures unread { IsNone result.inputs → IsUnread words.now (W.faults workspace.old) (W.faults workspace.new) (S.content store.old) (S.content store.new) result.reply result.takes }
+) -> Answer<S>
+    ensures unread { IsNone result.inputs → IsUnread words.now (S.faults store) (S.faults result.store) (W.faults workspace.old) (W.faults workspace.new) (S.content store) (S.content result.store) result.reply result.takes }
     ensures inputs { IfSome result.inputs (IsRecordOf words.now environment.now moment (W.content workspace.old)) }
-    ensures answer { IfSome result.inputs (λ inputs. IsAnswerTo words.now inputs (S.faults store.old) (S.faults store.new) (S.content store.old) (S.content store.new) result.reply result.takes) }
+    ensures answer { IfSome result.inputs (λ inputs. IsAnswerTo words.now inputs (S.faults store) (S.faults result.store) (S.content store) (S.content result.store) result.reply result.takes) }
+    ensures stands { (runs : List Run) (lost : List (List ℕ)) → StandsIn (S.content store) runs lost → IfSome result.inputs (λ inputs. Clean (all_texts inputs runs) → StandsIn (S.content result.store) (runs ++ runs_of inputs result.takes) lost) }
     ensures workspace { W.content workspace.new ≡ W.content workspace.old }
-    ensures kept_store { S.kept store.new ≡ S.kept store.old }
+    ensures kept_store { S.kept result.store ≡ S.kept store }
     ensures kept_workspace { W.kept workspace.new ≡ W.kept workspace.old }
 {
     let Some(task) = asked(words) else {
-        return unread(alloc, Reply::WordsNotBuilt);
+        return unread(alloc, Reply::WordsNotBuilt, store);
     };
-    match read_record(alloc, words, environment, moment, workspace) {
-        Ok(inputs) => judge(alloc, inputs, task, store),
-        Err(IoFault::Failed) => unread(alloc, Reply::WorkspaceFault),
-        Err(IoFault::Memory) => unread(alloc, Reply::Memory),
+    match Out::start(alloc, store) {
+        Ok(out) => answer_opened(alloc, task, words, environment, moment, out, workspace),
+        Err((store, fault)) => unread(alloc, store_reply(fault), store),
     }
 }
 
@@ -212,19 +260,21 @@ pub fn refuse<K: Sink + Drop>(alloc: Global, mut sink: K, reply: Reply) -> u8
 /// Runs one command over its devices, on this thread.
 ///
 /// The words are `-j 1 show TASK`, or `-j 1 --explain show TASK`, which says before the value which tasks ran, and why.
-/// The workspace's class files are small and linked files, each in its place. The tasks of the plan are taken in order,
-/// each once: a task is reused where its entry is readable and has its input hash; otherwise it is run, and its log and
-/// then its entry are put. The reply goes to the sink.
+/// The store is opened once the words are accepted: it loses the generations that no entry which reads publishes. The
+/// workspace's class files are small and linked files, each in its place. The tasks of the plan are taken in order, each
+/// once: a task is reused where its entry reads and has its input hash; otherwise it is run, and its log and then its
+/// entry are put. The reply goes to the sink.
 ///
-/// The replies and their statuses: the value (0); words of another form (2); the workspace failed (5); a class file
-/// that is none that is read so far, a task that two files have, an unknown input, a cycle (3); no such task (2); the
-/// store failed (4); memory was wanted (6). Where the sink fails the status is 7.
+/// The replies and their statuses, in the order in which they are decided: words of another form (2); the store failed
+/// as it was opened (4); the workspace failed (5); a class file that is none that is read so far, a task that two files
+/// have, an unknown input, a cycle (3); no such task (2); the store failed (4); the value (0). Memory that was wanted
+/// has 6. Where the sink fails the status is 7.
 pub fn mill_one<S: Store, W: Workspace, K: Sink>(
     alloc: Global,
     words: &[Text],
     environment: &[(Text, Text)],
     moment: u64,
-    mut store: S,
+    store: S,
     mut workspace: W,
     mut sink: K,
 ) -> Told<S, W, K>
@@ -233,13 +283,15 @@ pub fn mill_one<S: Store, W: Workspace, K: Sink>(
     ensures shown { Shown (K.got sink) (K.got result.sink) (printed (explains words.now) result.takes result.reply) result.reply result.status }
     ensures sink_fault { result.status ≡ 7 → Rose (K.faults sink) (K.faults result.sink) }
 
-    // Without a record the words are refused or the workspace failed, and nothing is taken.
-    ensures unread { IsNone result.inputs → IsUnread words.now (W.faults workspace) (W.faults result.workspace) (S.content store) (S.content result.store) result.reply result.takes }
+    // Without a record the words are refused, the opening of the store was refused, or the workspace failed, and nothing
+    // is taken.
+    ensures unread { IsNone result.inputs → IsUnread words.now (S.faults store) (S.faults result.store) (W.faults workspace) (W.faults result.workspace) (S.content store) (S.content result.store) result.reply result.takes }
 
     // A record has what was handed in and what the workspace tells.
     ensures record_of { IfSome result.inputs (IsRecordOf words.now environment.now moment (W.content workspace)) }
 
-    // With a record: when each reply comes, the takes with their reasons and values, and what they leave in the store.
+    // With a record the store was opened: when each reply comes, the takes with their reasons and values, and what they
+    // leave in the store.
     ensures answer { IfSome result.inputs (λ inputs. IsAnswerTo words.now inputs (S.faults store) (S.faults result.store) (S.content store) (S.content result.store) result.reply result.takes) }
 
     // Where the store stands for runs and no texts collide, the reply is that of evaluation from scratch.
@@ -258,14 +310,8 @@ pub fn mill_one<S: Store, W: Workspace, K: Sink>(
         reply,
         takes,
         inputs,
-    } = answer_words(
-        alloc,
-        words,
-        environment,
-        moment,
-        &mut store,
-        &mut workspace,
-    );
+        store,
+    } = answer_words(alloc, words, environment, moment, store, &mut workspace);
     let (status, reply) = show(alloc, &mut sink, explains(words), &takes, reply);
     Told {
         status,

@@ -1,36 +1,23 @@
-use Rattle.std.proofs.Common.{◌≡◌, ◌≢◌, Bool, true, false, IfSome, IfOk, refl, sym, ◌∙◌, subst}
+use Rattle.std.proofs.Common.{◌≡◌, ◌≢◌, IfOk, refl, sym, ◌∙◌, subst}
 use Rattle.std.specs.Int.{w32}
-use Rattle.std.specs.Str.{bytes_eq}
 use Rattle.std.proofs.lemmas.Bool.{false≢true}
 use Rattle.std.proofs.lemmas.Int.{to_z-of_z}
 use Rattle.std.proofs.lemmas.Slice.Eq.{bytes_eq-Decides}
-use Rattle.mill_top.specs.Entries.{entry_at}
-use Rattle.mill_top.specs.Takes.{IsNextGeneration}
-use Rattle.mill_top.proofs.EntryLaws.{no_int_why, other_why, next_generation}
+use Rattle.mill_top.proofs.EntryLaws.{no_int_why, other_why}
 use Rattle.mill_top.proofs.TakingLaws.{reuse_step}
 use Rattle.mill_top.proofs.taking.take_over.Goals as goal
 
 pub run_task-requires-clause-why : goal.run_task-requires-clause-why
-run_task-requires-clause-why g c = no_int_why c.args.job.now.task c.args.job.now.input _ c.args.entry.now c.requires.readable (c.in-None.ensures.none refl)
-
-pub run_task-requires-clause-next : goal.run_task-requires-clause-next
-run_task-requires-clause-next g c =
-    subst (λ n. IfSome (entry_at (g.S.Store.content c.args.store.now) c.args.job.now.task) (λ there. IsNextGeneration c.args.job.now.task there n)) (sym c.next_to-generation.ensures)
-    (next_generation c.args.job.now.task _ c.args.entry.now c.requires.readable)
+run_task-requires-clause-why g c = no_int_why c.args.job.now.task c.args.job.now.input _ c.args.entry.now c.requires.reads (c.in-None.ensures.none refl)
 
 pub run_task-requires-else-eq-clause-why : goal.run_task-requires-else-eq-clause-why
 run_task-requires-else-eq-clause-why g c =
     let differs : c.args.entry.now.input ≢ c.args.job.now.input =
     λ same. false≢true (sym c.if-eq.false ∙ c.eq.ensures ∙ (bytes_eq-Decides c.args.entry.now.input c.args.job.now.input).1 same) in
-    other_why c.args.job.now.task c.args.job.now.input _ c.args.entry.now c.in-Some.value c.requires.readable c.in-Some.ensures.some differs
-
-pub run_task-requires-else-eq-clause-next : goal.run_task-requires-else-eq-clause-next
-run_task-requires-else-eq-clause-next g c =
-    subst (λ n. IfSome (entry_at (g.S.Store.content c.args.store.now) c.args.job.now.task) (λ there. IsNextGeneration c.args.job.now.task there n)) (sym c.next_to-generation.ensures)
-    (next_generation c.args.job.now.task _ c.args.entry.now c.requires.readable)
+    other_why c.args.job.now.task c.args.job.now.input _ c.args.entry.now c.in-Some.value c.requires.reads c.in-Some.ensures.some differs
 
 pub returns-then-eq-clause-step : goal.returns-then-eq-clause-step
 returns-then-eq-clause-step g c =
-    reuse_step c.args.job.now.task c.args.job.now.input _ c.args.entry.now c.in-Some.value _ c.reuse.result _ _ c.requires.readable c.in-Some.ensures.some
+    reuse_step c.args.job.now.task c.args.job.now.input _ c.args.entry.now c.in-Some.value _ _ c.reuse.result _ _ c.requires.reads c.in-Some.ensures.some
     ((bytes_eq-Decides c.args.entry.now.input c.args.job.now.input).0 (sym c.eq.ensures ∙ c.if-eq.true))
     (subst (λ v. IfOk c.reuse.result (λ reused. reused ≡ v)) (to_z-of_z w32 c.in-Some.value c.in-Some.ensures.fits) c.reuse.ensures.value) c.reuse.ensures.ok c.reuse.ensures.err
