@@ -120,8 +120,3 @@ same_scratch all one other clean has_one has_other digested same_task e =
     let method = clean (method_text one.inputs task) (method_text other.inputs task) m_one m_run methods in
     let classes = methods_same one.inputs other.inputs task digested.method method in
     classes_scratch one.inputs other.inputs task classes ∙ ap (scratch other.inputs) same_task
-
--- the input hash of a task is a digest
-pub hash_digest : (inputs : Record) (task : List ℕ) (values : List ℤ) → IsDigest (input_hash inputs task values)
-unfolding input_hash
-hash_digest inputs task values = IsDigest-sha256 (input_text inputs task values)

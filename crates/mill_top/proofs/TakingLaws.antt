@@ -164,16 +164,7 @@ whole_put own run numbers numbers_now old new (Err refused) same next taken put 
 whole_put own run numbers numbers_now old new (Ok number) same next taken put =
     subst (λ (r : Finished). IsPut r numbers numbers_now old new number) same (record { next = next; taken = taken; out = put })
 
-pub run_stands : (own run : Finished) (numbers numbers_now : Numbers) (old new : Option Files) → own ≡ run → (KnowsIn old numbers → KnowsIn new numbers_now)
-    → ((rows : List Row) (lost : List (List ℕ)) → KnowsIn old numbers → StandsIn old rows lost → StandsIn new (row_of own ∷ rows) lost)
-    → LeavesStanding numbers numbers_now old new (row_of run ∷ [])
-run_stands own run numbers numbers_now old new same knows stands =
-    subst (λ (r : Finished). LeavesStanding numbers numbers_now old new (row_of r ∷ [])) same (record { knows = knows; stands = stands })
-
 -- where nothing was begun
-pub unbegun : (run : Finished) (numbers : Numbers) (content : Option Files) → LeftByPublish run numbers numbers content content
-unbegun run numbers content = inl ((λ task number. ((λ used. used), (λ used. used))), refl)
-
 pub unbegun_stands : (run : Finished) (numbers : Numbers) (content : Option Files) → LeavesStanding numbers numbers content content (row_of run ∷ [])
 unbegun_stands run numbers content = record {
   knows = λ knows. knows;
