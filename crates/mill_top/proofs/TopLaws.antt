@@ -88,11 +88,11 @@ pub shown_unread : (words : List (List ℕ)) (before now workspace_before worksp
     → IsUnlessMemory reply own → IsUnread words before now workspace_before workspace_now old new own takes → IsUnread words before now workspace_before workspace_now old new reply takes
 shown_unread words before now w v old new reply own takes is h = record {
   nothing_taken = h.nothing_taken;
-  refused = over_none (AreRefused w v old new own) (AreRefused w v old new reply) (asked words) refused h.refused;
+  refused = over_none (AreRefused before now w v old new own) (AreRefused before now w v old new reply) (asked words) refused h.refused;
   failed = over_some (IsUnopened before now w v old new own ⊎ IsOpenedAlone w v old new own) (IsUnopened before now w v old new reply ⊎ IsOpenedAlone w v old new reply) (asked words) failed h.failed;
 } where
-  refused : AreRefused w v old new own → AreRefused w v old new reply
-  refused r = record { reply_is = chained reply own WordsNotBuilt is r.reply_is; unread = r.unread; out = r.out }
+  refused : AreRefused before now w v old new own → AreRefused before now w v old new reply
+  refused r = record { reply_is = chained reply own WordsNotBuilt is r.reply_is; unopened = r.unopened; unread = r.unread; out = r.out }
 
   failed : IsUnopened before now w v old new own ⊎ IsOpenedAlone w v old new own → IsUnopened before now w v old new reply ⊎ IsOpenedAlone w v old new reply
   failed (inl r) = inl (record { reply_is = chained reply own StoreFault is r.reply_is; cause = store_cause (Rose before now) reply own is r.cause; unread = r.unread; out = r.out })
@@ -183,7 +183,7 @@ from_scratch_in words environment moment workspace (Some inputs) before now old 
 -- ---- the store stands for the runs and those of the command
 
 without_record : (asks : Option (List ℕ)) (before now w v : ℕ) (old new : Option Files) (reply : Reply) (rows : List Row) (lost : List (List ℕ))
-    → IfNone asks (AreRefused w v old new reply) → IfSome asks (λ task. IsUnopened before now w v old new reply ⊎ IsOpenedAlone w v old new reply)
+    → IfNone asks (AreRefused before now w v old new reply) → IfSome asks (λ task. IsUnopened before now w v old new reply ⊎ IsOpenedAlone w v old new reply)
     → store.StandsIn old rows lost → store.StandsIn new rows lost
 without_record None before now w v old new reply rows lost refused failed stands = subst (λ c. store.StandsIn c rows lost) (sym refused.out) stands
 without_record (Some task) before now w v old new reply rows lost refused (inl unopened) stands = opening_stands old new rows lost unopened.out stands

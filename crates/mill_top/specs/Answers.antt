@@ -27,9 +27,10 @@ pub record IsRecordOf (words : List (List ℕ)) (environment : List (List ℕ ×
   pub same_moment : inputs.moment ≡ moment
   pub files : IfSome workspace (λ files. inputs.files ≡ files)
 
--- Words that ask for no task. No device was called, and the store is as it was.
-pub record AreRefused (workspace_before workspace_now : ℕ) (old new : Option Files) (reply : Reply) : Type 0 where
+-- Words that ask for no task. Neither device counted a fault, and the store is as it was.
+pub record AreRefused (before now workspace_before workspace_now : ℕ) (old new : Option Files) (reply : Reply) : Type 0 where
   pub reply_is : IsUnlessMemory reply WordsNotBuilt
+  pub unopened : now ≡ before
   pub unread : workspace_now ≡ workspace_before
   pub out : new ≡ old
 
@@ -54,7 +55,7 @@ IsOpenedAlone workspace_before workspace_now old new reply =
 -- The reply to a command without a record: its words are refused, or the opening of the store, or the workspace failed.
 pub record IsUnread (words : List (List ℕ)) (before now workspace_before workspace_now : ℕ) (old new : Option Files) (reply : Reply) (takes : List (List ℕ × Found)) : Type 0 where
   pub nothing_taken : takes ≡ []
-  pub refused : IfNone (asked words) (AreRefused workspace_before workspace_now old new reply)
+  pub refused : IfNone (asked words) (AreRefused before now workspace_before workspace_now old new reply)
   pub failed : IfSome (asked words) (λ task. IsUnopened before now workspace_before workspace_now old new reply ⊎ IsOpenedAlone workspace_before workspace_now old new reply)
 
 -- a value, or the store failed, or memory was wanted
