@@ -23,3 +23,6 @@ pub mod StandingLaws
 pub mod PlannedLaws
 pub mod AnswerLaws
 pub mod TopLaws
+pub mod LossLaws
+pub mod ReplayLaws
+pub mod StageLaws

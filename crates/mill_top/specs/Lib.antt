@@ -13,3 +13,5 @@ pub mod Standing
 pub mod Leaving
 pub mod Answers
 pub mod Walks
+pub mod Replays
+pub mod Stages

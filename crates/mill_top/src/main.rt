@@ -18,6 +18,10 @@ mod printing;
 mod program;
 mod reading;
 mod recorded;
+mod replay;
+mod replay_steps;
+#[cfg(test)]
+mod replay_tests;
 mod reply;
 mod sending;
 mod small_file;
