@@ -3,7 +3,6 @@ use Rattle.std.proofs.Common.{◌≡◌, ℕ, List, [], ◌∷◌, Option, Some,
 use Rattle.std.specs.declared.cmp.Ordering.TheVariants.{Equal}
 use Rattle.std.specs.Ordering.{is_eq, eq_by_cmp}
 use Rattle.std.specs.FinMap.Entries as entries
-use Rattle.std.proofs.lemmas.Cmp.{nat_list_cmp_total}
 use Rattle.io_traits.specs.Files.{Files, get, remove}
 use Rattle.tree_value.specs.Trees.{path_cmp}
 use Rattle.mill_top.specs.Entries.{entry_name, entry_bytes}

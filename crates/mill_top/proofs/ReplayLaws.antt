@@ -1,5 +1,5 @@
 -- What a script leads to: each reply is that from scratch, and the results stand for all runs and lost names.
-use Rattle.std.proofs.Common.{◌≡◌, ℕ, List, [], ◌∷◌, Option, Some, None, IfSome, refl, sym, ap, subst, ◌∙◌}
+use Rattle.std.proofs.Common.{◌≡◌, ℕ, List, [], ◌∷◌, Option, Some, None, IfSome, sym, ap, subst, ◌∙◌}
 use Rattle.io_traits.specs.Files.{Files}
 use Rattle.mill_top.specs.declared.replay_steps.ReplayStep.{ReplayStep}
 use Rattle.mill_top.specs.declared.replay_steps.ReplayStep.TheVariants.{Edit, Lose, Run}

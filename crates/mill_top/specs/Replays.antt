@@ -1,5 +1,5 @@
 -- What a script of edits, losses and commands leads to.
-use Rattle.std.specs.Prelude.{◌≡◌, ℕ, List, [], ◌∷◌, ◌++◌, map, reverse, Option, Some, None, IfSome, IsNone, IfOk}
+use Rattle.std.specs.Prelude.{◌≡◌, ℕ, List, [], ◌∷◌, ◌++◌, map, reverse, Option, Some, IfSome, IsNone, IfOk}
 use Rattle.io_traits.specs.Files.{Files, remove}
 use Rattle.io_traits.specs.Planned.{set_to}
 use Rattle.io_traits.specs.declared.mem_stores.MemStore.{MemStore}
