@@ -26,11 +26,10 @@ enum Form {
     },
 }
 
-// A command over these class files, after this name of the store was lost, and what it is answered.
+// A command over these class files, and what it is answered.
 #[derive(Clone, Copy)]
 struct Step<'a> {
     files: &'a [Form],
-    lost: &'static str,
     words: &'static [&'static str],
     status: u8,
     printed: &'static str,
@@ -38,22 +37,12 @@ struct Step<'a> {
 
 const SHOW_A: &[&str] = &["-j", "1", "show", "a"];
 
-const SHOW_B: &[&str] = &["-j", "1", "show", "b"];
-
-const EXPLAIN_B: &[&str] = &["-j", "1", "--explain", "show", "b"];
-
 const EXPLAIN_C: &[&str] = &["-j", "1", "--explain", "show", "c"];
 
 const A_IS_5: Form = Form::Small {
     class: b'A',
     task: b'a',
     opcode: 8,
-};
-
-const A_IS_4: Form = Form::Small {
-    class: b'A',
-    task: b'a',
-    opcode: 7,
 };
 
 const B_ADDS_5: Form = Form::Linked {
@@ -173,7 +162,6 @@ fn play<R: Abort + AllocGlobal>(rt: &R, steps: &[Step<'_>]) -> Result<Vec<Path>,
     let alloc = rt.alloc();
     let mut store = MemStore::new(alloc, Contents::new(alloc), Vec::new(alloc))?;
     for step in steps {
-        store.lose(&Path::of(alloc, step.lost.as_bytes())?);
         let seen = run(alloc, step, store)?;
         assert_eq!(*rt; seen.status, step.status, "status of {}", step.printed);
         assert_eq!(*rt; seen.printed.as_slice(), step.printed.as_bytes());
@@ -183,52 +171,11 @@ fn play<R: Abort + AllocGlobal>(rt: &R, steps: &[Step<'_>]) -> Result<Vec<Path>,
 }
 
 #[test]
-fn an_edit_and_a_loss_run_what_they_touch(rt: HostRuntime) -> Result<(), Fail> {
-    let kept = Step {
-        files: &[A_IS_5, B_ADDS_5],
-        lost: "",
-        words: EXPLAIN_B,
-        status: 0,
-        printed: "10\n",
-    };
-    let edited = Step {
-        files: &[A_IS_4, B_ADDS_5],
-        printed: "a ran: changed\nb ran: changed\n9\n",
-        ..kept
-    };
-    play(
-        &rt,
-        &[
-            Step {
-                words: SHOW_B,
-                ..kept
-            },
-            kept,
-            edited,
-            Step {
-                lost: "a.json",
-                printed: "a ran: missing\n9\n",
-                ..edited
-            },
-            Step {
-                files: &[B_ADDS_5],
-                words: SHOW_B,
-                status: 3,
-                printed: "build: unknown input a of b\n",
-                ..kept
-            },
-        ],
-    )?;
-    Ok(())
-}
-
-#[test]
 fn a_task_that_is_not_asked_for_does_not_run(rt: HostRuntime) -> Result<(), Fail> {
     let names = play(
         &rt,
         &[Step {
             files: &[A_IS_5, B_ADDS_5, C_TAKES_3],
-            lost: "",
             words: EXPLAIN_C,
             status: 0,
             printed: "a ran: missing\nc ran: missing\n2\n",
@@ -242,7 +189,6 @@ fn a_task_that_is_not_asked_for_does_not_run(rt: HostRuntime) -> Result<(), Fail
 fn refused_graphs_are_named(rt: HostRuntime) -> Result<(), Fail> {
     let refused = Step {
         files: &[A_IS_5, B_ADDS_5],
-        lost: "",
         words: SHOW_A,
         status: 3,
         printed: "",
@@ -314,7 +260,6 @@ fn a_chain_of_all_tasks_is_added_up(rt: HostRuntime) -> Result<(), Fail> {
         &rt,
         &[Step {
             files: forms.as_slice(),
-            lost: "",
             words: &["-j", "1", "show", "z"],
             status: 0,
             printed: "30\n",
