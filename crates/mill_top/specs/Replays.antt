@@ -44,7 +44,7 @@ reply_to command = command.reply
 
 -- a command of these words, environment and moment that led from one place to another keeps the contract of `mill_one`
 pub record IsCommand (words : List (List ℕ)) (environment : List (List ℕ × List ℕ)) (moment : ℕ) (old new : Place) (command : Command) : Type 0 where
-  pub unread : IsNone command.inputs → IsUnread words old.files_faults new.files_faults (Some old.results) (Some new.results) command.reply command.takes
+  pub unread : IsNone command.inputs → IsUnread words old.results_faults new.results_faults old.files_faults new.files_faults (Some old.results) (Some new.results) command.reply command.takes
   pub record_of : IfSome command.inputs (IsRecordOf words environment moment (Some old.files))
   pub answer : IfSome command.inputs (λ inputs. IsAnswerTo words inputs old.results_faults new.results_faults (Some old.results) (Some new.results) command.reply command.takes)
   pub from_scratch : (runs : List inputs.Run) (lost : List (List ℕ)) → StandsIn (Some old.results) runs lost
