@@ -157,6 +157,15 @@ if [ -e out/a.json ]; then
     failed=1
 fi
 
+fresh first
+mkdir -p out/a.dest/g1 out/a.dest/g01
+touch out/a.dest/g1/x out/a.dest/g01/x out/a.dest/readme out/other
+expect "an unpublished generation" 0 5 -j 1 show a
+expect_entry "an unpublished generation" a 1 "$hash" 5
+printf 'out/%s\n' a.dest/g01/x a.dest/readme a.json a.log other >"$work/wanted_files"
+find out -type f | sort >"$work/files"
+same "an unpublished generation: files of out" "$work/wanted_files" "$work/files"
+
 fresh linked
 expect "a linked task" 0 10 -j 1 show b
 expect_entry "a linked task" a 1 "$(input_hash A a)" 5
