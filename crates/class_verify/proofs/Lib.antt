@@ -1,0 +1,13 @@
+pub mod DescriptorLemmas
+pub mod Firsts
+pub mod Fitting
+pub mod Methods
+pub mod Points
+pub mod Safe
+pub mod Slots
+pub mod Stacking
+pub mod Strays
+pub mod Switched
+pub mod Tables
+pub mod Verifying
+pub mod Walking

@@ -1,0 +1,47 @@
+-- Attributes, frames and methods, one after another.
+use Rattle.std.proofs.Common.{◌≡◌, ℕ, ◌+◌, ◌<◌, ◌≤◌, List, [], ◌∷◌, ◌++◌, length, take, drop, get_or, Option, Some, None, refl, sym, ap, ◌∙◌, arith, append_assoc}
+use Rattle.std.specs.Prelude.{nat_le}
+use Rattle.std.proofs.lemmas.List.{drop_more, drop_all, append-nil}
+use Rattle.class_model.specs.declared.attribute_forms.Attribute.{Attribute, out-Attribute}
+use Rattle.class_model.specs.declared.stack_map.FrameType.{FrameType}
+use Rattle.class_model.specs.declared.stack_map.StackFrame.{StackFrame}
+use Rattle.class_verify.specs.declared.frames.Limits.{Limits}
+use Rattle.class_verify.specs.declared.frames.Written.{Written}
+use Rattle.class_verify.specs.Frames.{chopped, types_after, written, frames_from}
+use Rattle.class_verify.specs.Verified.{CodeParts, code_or, code_in, frames_or, stack_map_in}
+
+pub code_step : (attributes : List Attribute) (i : ℕ) (a : Attribute) → i < length attributes → a ≡ get_or attributes i a
+    → code_in (drop i attributes) ≡ code_or (out-Attribute a) (code_in (drop (i + 1) attributes))
+unfolding code_in
+code_step attributes i a h e =
+    ap code_in (drop_more attributes i a h) ∙ ap (λ x. code_or (out-Attribute x) (code_in (drop (i + 1) attributes))) (sym e)
+
+pub code_end : (attributes : List Attribute) (i : ℕ) → length attributes ≤ i → code_in (drop i attributes) ≡ None
+unfolding code_in
+code_end attributes i h = ap code_in (drop_all i attributes h)
+
+pub map_step : (attributes : List Attribute) (i : ℕ) (a : Attribute) → i < length attributes → a ≡ get_or attributes i a
+    → stack_map_in (drop i attributes) ≡ frames_or (out-Attribute a) (stack_map_in (drop (i + 1) attributes))
+unfolding stack_map_in
+map_step attributes i a h e =
+    ap stack_map_in (drop_more attributes i a h) ∙ ap (λ x. frames_or (out-Attribute x) (stack_map_in (drop (i + 1) attributes))) (sym e)
+
+pub map_end : (attributes : List Attribute) (i : ℕ) → length attributes ≤ i → stack_map_in (drop i attributes) ≡ []
+unfolding stack_map_in
+map_end attributes i h = ap stack_map_in (drop_all i attributes h)
+
+pub frames_step : (limits : Limits) (next : ℕ) (before : List FrameType) (frames : List StackFrame) (i : ℕ) (f : StackFrame) (found : List Written)
+    → i < length frames → f ≡ get_or frames i f
+    → found ++ frames_from limits next before (drop i frames)
+    ≡ (found ++ written limits (next + f.delta) (nat_le (chopped f) (length before)) (types_after f before) f.stack ∷ [])
+    ++ frames_from limits (next + f.delta + 1) (types_after f before) (drop (i + 1) frames)
+unfolding frames_from
+frames_step limits next before frames i f found h e =
+    ap (λ fs. found ++ frames_from limits next before fs) (drop_more frames i f h ∙ ap (λ g. g ∷ drop (i + 1) frames) (sym e))
+    ∙ sym (append_assoc found (written limits (next + f.delta) (nat_le (chopped f) (length before)) (types_after f before) f.stack ∷ [])
+    (frames_from limits (next + f.delta + 1) (types_after f before) (drop (i + 1) frames)))
+
+pub frames_end : (limits : Limits) (next : ℕ) (before : List FrameType) (frames : List StackFrame) (i : ℕ) (found : List Written)
+    → length frames ≤ i → found ++ frames_from limits next before (drop i frames) ≡ found
+unfolding frames_from
+frames_end limits next before frames i found h = ap (λ fs. found ++ frames_from limits next before fs) (drop_all i frames h) ∙ append-nil found

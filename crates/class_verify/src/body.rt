@@ -1,0 +1,235 @@
+//! The code of a method with what verification asks of it.
+
+ghost use Rattle.std.specs.Prelude.{◌≡◌, ◌<◌, ◌≤◌, Some, None, Ok, drop, length, map, option_copied, option_map, is_some};
+ghost use Rattle.std.specs.List.{list_all};
+ghost use Rattle.jvm_tables.specs.Decoding.{decoding};
+ghost use Rattle.jvm_tables.specs.Switches.{target};
+ghost use Rattle.jvm_tables.specs.Switching.{cases_at};
+ghost use Rattle.class_verify.specs.Frames.{frame_at};
+ghost use Rattle.class_verify.specs.Misfits.{is_float_frame, ends_well, is_result};
+ghost use Rattle.class_verify.specs.Places.{begins};
+ghost use Rattle.class_verify.specs.Ready.{IsReady, plain};
+ghost use Rattle.class_verify.specs.Targets.{targets_by, accepts, is_accepted, fits_written, catches, covers, is_caught, catches_in, falls};
+
+use crate::frames::{Limits, Written};
+use crate::locals::Locals;
+use crate::places::next_place;
+use crate::shape::Shape;
+use class_model::{Class, Handler};
+use jvm_tables::{Flow, Instr, Operands, ValueKind, is_switch, switch_case, switch_len};
+use sqlite_items::Items;
+
+/// The code of a method, with tables by pc.
+#[derive(Drop)]
+pub(crate) struct Body<'a> {
+    pub class: &'a Class,
+    /// The kind of the method's result.
+    pub result: Option<ValueKind>,
+    pub limits: Limits,
+    pub code: &'a [u8],
+    pub table: &'a [Handler],
+    /// The shape as it begins; `None` where the arguments pass the locals.
+    pub first: Option<Shape>,
+    pub frames: Items<Written>,
+    /// Whether an instruction begins at a pc.
+    pub marks: Vec<bool>,
+    /// Which frame stands at a pc.
+    pub framed: Vec<Option<usize>>,
+}
+
+/// An instruction by its place, and a buffer for the shape there. Before the instruction is entered the shape is what
+/// arrives, if control comes from the instruction before it.
+#[derive(Drop)]
+pub(crate) struct Spot {
+    pub pc: usize,
+    pub is_reached: bool,
+    pub shape: Shape,
+}
+
+fn target(instr: &Instr) -> usize
+    ensures { result ≡ target instr.now.pc instr.now.first }
+{
+    instr.pc.wrapping_add_signed(instr.first) as usize
+}
+
+fn is_result(result_kind: Option<ValueKind>, takes: Operands) -> bool
+    ensures { result ≡ is_result result_kind takes }
+{
+    match result_kind {
+        None => matches!(takes, Operands::Nothing),
+        Some(ValueKind::Int) => matches!(takes, Operands::Int),
+        Some(ValueKind::Long) => matches!(takes, Operands::Long),
+        Some(ValueKind::Reference) => matches!(takes, Operands::Reference),
+    }
+}
+
+fn fits_written(shape: &Shape, wanted: &Option<Shape>) -> bool
+    ensures { result ≡ fits_written shape.now wanted.now }
+{
+    match wanted {
+        Some(wanted) => shape.fits(wanted),
+        None => false,
+    }
+}
+
+fn catches_in(locals: &Locals, wanted: &Option<Shape>) -> bool
+    ensures { result ≡ catches_in locals.now wanted.now }
+{
+    match wanted {
+        Some(wanted) => wanted.stack.is_thrown() && locals.fits(&wanted.locals),
+        None => false,
+    }
+}
+
+fn covers(pc: usize, handler: &Handler) -> bool
+    ensures { result ≡ covers pc handler.now }
+{
+    usize::from(handler.start) <= pc && pc < usize::from(handler.end)
+}
+
+impl Body<'_> {
+    pub(crate) fn begins(&self, pc: usize) -> bool
+        requires { IsReady self.now }
+        ensures { result ≡ begins self.now.code.now pc }
+    {
+        if pc < self.marks.len() {
+            self.marks[pc]
+        } else {
+            false
+        }
+    }
+
+    /// The frame that the file writes for a pc.
+    pub(crate) fn frame(&self, pc: usize) -> Option<&Written>
+        requires { IsReady self.now }
+        ensures { option_copied result ≡ frame_at self.now.code.now self.now.frames pc }
+    {
+        if pc >= self.framed.len() {
+            return None;
+        }
+        match self.framed[pc] {
+            Some(place) => self.frames.get(place),
+            None => None,
+        }
+    }
+
+    pub(crate) fn has_float_frame(&self, pc: usize) -> bool
+        requires { IsReady self.now }
+        ensures { result ≡ is_float_frame (frame_at self.now.code.now self.now.frames pc) }
+    {
+        match self.frame(pc) {
+            Some(frame) => frame.has_float,
+            None => false,
+        }
+    }
+
+    #[tactic(auto, using(crate::proofs::Switched::case_more, crate::proofs::Switched::case_no, crate::proofs::Switched::case_all, crate::proofs::Switched::no_cases))]
+    fn cases_begin(&self, instr: &Instr) -> bool
+        requires ready { IsReady self.now }
+        requires decoded { decoding instr.now.pc (drop instr.now.pc self.now.code.now) ≡ Ok instr.now }
+        ensures { result ≡ list_all (begins self.now.code.now) (map (λ c. c.1) (cases_at self.now.code.now instr.now)) }
+    {
+        if !is_switch(instr) {
+            return true;
+        }
+        for place in 0..switch_len(self.code, instr) {
+            let (_, pc) = switch_case(self.code, instr, place);
+            if !self.begins(pc as usize) {
+                return false;
+            }
+        }
+        true
+    }
+
+    /// Whether an instruction begins at each target.
+    pub(crate) fn targets_begin(&self, flow: Flow, instr: &Instr) -> bool
+        requires ready { IsReady self.now }
+        requires decoded { decoding instr.now.pc (drop instr.now.pc self.now.code.now) ≡ Ok instr.now }
+        ensures { result ≡ list_all (begins self.now.code.now) (targets_by flow self.now.code.now instr.now) }
+    {
+        match flow {
+            Flow::Next | Flow::Return | Flow::Throw => true,
+            Flow::Branch | Flow::Jump => self.begins(target(instr)),
+            Flow::Switch => self.begins(target(instr)) && self.cases_begin(instr),
+        }
+    }
+
+    fn accepts(&self, shape: &Shape, pc: usize) -> bool
+        requires { IsReady self.now }
+        ensures { result ≡ accepts self.now.code.now self.now.frames shape.now pc }
+    {
+        match self.frame(pc) {
+            Some(frame) => fits_written(shape, &frame.shape),
+            None => false,
+        }
+    }
+
+    #[tactic(auto, using(crate::proofs::Switched::case_more, crate::proofs::Switched::case_no, crate::proofs::Switched::case_all, crate::proofs::Switched::no_cases))]
+    fn cases_accept(&self, shape: &Shape, instr: &Instr) -> bool
+        requires ready { IsReady self.now }
+        requires decoded { decoding instr.now.pc (drop instr.now.pc self.now.code.now) ≡ Ok instr.now }
+        ensures { result ≡ list_all (accepts self.now.code.now self.now.frames shape.now) (map (λ c. c.1) (cases_at self.now.code.now instr.now)) }
+    {
+        if !is_switch(instr) {
+            return true;
+        }
+        for place in 0..switch_len(self.code, instr) {
+            let (_, pc) = switch_case(self.code, instr, place);
+            if !self.accepts(shape, pc as usize) {
+                return false;
+            }
+        }
+        true
+    }
+
+    /// Whether a shape fits the frame at each target.
+    pub(crate) fn targets_accept(&self, shape: &Shape, flow: Flow, instr: &Instr) -> bool
+        requires ready { IsReady self.now }
+        requires decoded { decoding instr.now.pc (drop instr.now.pc self.now.code.now) ≡ Ok instr.now }
+        ensures { result ≡ list_all (accepts self.now.code.now self.now.frames shape.now) (targets_by flow self.now.code.now instr.now) }
+    {
+        match flow {
+            Flow::Next | Flow::Return | Flow::Throw => true,
+            Flow::Branch | Flow::Jump => self.accepts(shape, target(instr)),
+            Flow::Switch => {
+                self.accepts(shape, target(instr)) && self.cases_accept(shape, instr)
+            }
+        }
+    }
+
+    fn catches(&self, pc: usize, locals: &Locals, handler: &Handler) -> bool
+        requires { IsReady self.now }
+        ensures { result ≡ catches self.now.code.now self.now.frames pc locals.now handler.now }
+    {
+        if !covers(pc, handler) {
+            return true;
+        }
+        match self.frame(usize::from(handler.handler)) {
+            Some(frame) => catches_in(locals, &frame.shape),
+            None => false,
+        }
+    }
+
+    /// Whether each handler whose range has the pc accepts the locals.
+    pub(crate) fn all_catch(&self, pc: usize, locals: &Locals) -> bool
+        requires { IsReady self.now }
+        ensures { result ≡ list_all (catches self.now.code.now self.now.frames pc locals.now) self.now.table.now }
+    {
+        self.table
+            .iter()
+            .all(|handler| self.catches(pc, locals, handler))
+    }
+
+    /// Whether control that goes on finds an instruction, and control that returns has the result.
+    pub(crate) fn ends_well(&self, pc: usize, flow: Flow, takes: Operands) -> bool
+        requires ready { IsReady self.now }
+        requires within { pc < length self.now.code.now }
+        ensures { result ≡ ends_well (plain self.now) pc flow takes }
+    {
+        match flow {
+            Flow::Next | Flow::Branch => next_place(self.code, pc).is_some(),
+            Flow::Return => is_result(self.result, takes),
+            Flow::Jump | Flow::Switch | Flow::Throw => true,
+        }
+    }
+}

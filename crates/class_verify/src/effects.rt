@@ -1,0 +1,125 @@
+//! What an instruction leaves on the operand stack and in the locals.
+
+ghost use Rattle.std.specs.Prelude.{◌≡◌, ◌<◌, ◌^◌, ◌||◌, None, Some, IfOk, MatchBool};
+ghost use Rattle.jvm_tables.specs.Agreement.{names_local, increments};
+ghost use Rattle.class_verify.specs.Effects.{is_slots, used, stack_after, local_of, is_read, with_store, locals_after, left};
+ghost use Rattle.class_verify.specs.Constants.{use_of};
+
+use crate::constants::{Use, number_of};
+use crate::locals::Locals;
+use crate::shape::Shape;
+use crate::stack::Stack;
+use class_model::Class;
+use jvm_tables::{Form, Instr, OpRow, Operands, ValueKind};
+use std::alloc::AllocError;
+
+fn is_slots(operands: Operands) -> bool
+    ensures { result ≡ is_slots operands }
+{
+    matches!(operands, Operands::Slots(_))
+}
+
+/// Takes and puts what the row or the constant of an instruction tells, if they are there.
+fn use_values(
+    class: &Class,
+    row: &OpRow,
+    instr: &Instr,
+    stack: &mut Stack,
+    uses: &mut Use,
+) -> Result<bool, AllocError>
+    ensures { IfOk result (λ is_there. MatchBool is_there (used (use_of class.now row.now instr.now) stack.old ≡ Some stack.new) (used (use_of class.now row.now instr.now) stack.old ≡ None)) }
+{
+    if !uses.fill(class, row, instr)? {
+        return Ok(false);
+    }
+    if !stack.take_values(uses.takes.as_slice()) {
+        return Ok(false);
+    }
+    stack.put_values(uses.gives.as_slice())?;
+    Ok(true)
+}
+
+#[tactic(auto, unfolding(crate::specs::Effects::stack_after))]
+fn change_stack(
+    class: &Class,
+    row: &OpRow,
+    instr: &Instr,
+    stack: &mut Stack,
+    uses: &mut Use,
+) -> Result<bool, AllocError>
+    ensures { IfOk result (λ is_there. MatchBool is_there (stack_after class.now row.now instr.now stack.old ≡ Some stack.new) (stack_after class.now row.now instr.now stack.old ≡ None)) }
+{
+    if is_slots(row.takes) {
+        stack.move_slots(row.operation)
+    } else {
+        use_values(class, row, instr, stack, uses)
+    }
+}
+
+fn names_its_local(form: Form) -> bool
+    ensures { result ≡ (names_local form || increments form) }
+{
+    matches!(form, Form::Local | Form::LocalIncrement)
+}
+
+fn local_of(row: &OpRow, instr: &Instr) -> usize
+    ensures local { result ≡ local_of row.now instr.now }
+    ensures small { result < 2 ^ 32 }
+{
+    if names_its_local(row.form) {
+        number_of(instr.first)
+    } else {
+        number_of(i32::from(row.implied))
+    }
+}
+
+fn is_read(locals: &Locals, place: usize, kind: Option<ValueKind>) -> bool
+    ensures { result ≡ is_read kind place locals.now }
+{
+    match kind {
+        Some(kind) => locals.holds(place, kind),
+        None => true,
+    }
+}
+
+fn store(locals: &mut Locals, place: usize, kind: Option<ValueKind>) -> bool
+    requires { place < 2 ^ 32 }
+    ensures { MatchBool result (with_store kind place locals.old ≡ Some locals.new) (with_store kind place locals.old ≡ None) }
+{
+    match kind {
+        Some(kind) => locals.store(place, kind),
+        None => true,
+    }
+}
+
+#[tactic(auto, unfolding(crate::specs::Effects::locals_after))]
+fn change_locals(row: &OpRow, instr: &Instr, locals: &mut Locals) -> bool
+    ensures { MatchBool result (locals_after row.now instr.now locals.old ≡ Some locals.new) (locals_after row.now instr.now locals.old ≡ None) }
+{
+    let place = local_of(row, instr);
+    if !is_read(locals, place, row.reads) {
+        return false;
+    }
+    store(locals, place, row.writes)
+}
+
+/// Makes a shape what an instruction leaves of it, if it leaves any.
+#[tactic(auto, unfolding(crate::specs::Effects::left))]
+pub(crate) fn leave(
+    class: &Class,
+    most: usize,
+    row: &OpRow,
+    instr: &Instr,
+    shape: &mut Shape,
+    uses: &mut Use,
+) -> Result<bool, AllocError>
+    ensures { IfOk result (λ is_there. MatchBool is_there (left class.now most row.now instr.now shape.old ≡ Some shape.new) (left class.now most row.now instr.now shape.old ≡ None)) }
+{
+    if !change_locals(row, instr, &mut shape.locals) {
+        return Ok(false);
+    }
+    if !change_stack(class, row, instr, &mut shape.stack, uses)? {
+        return Ok(false);
+    }
+    Ok(shape.stack.len() <= most)
+}
