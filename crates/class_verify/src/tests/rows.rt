@@ -428,13 +428,18 @@ fn misfit_of(
     behind: Behind,
 ) -> Result<Option<(u32, Cause)>, AllocError> {
     let (code, _, end) = coded;
-    let frames: [Frame; 1] = [(251, u16::try_from(*end).unwrap_or(0), &[], &[])];
-    let written = if behind == Behind::Frame {
-        frames.as_slice()
-    } else {
-        &[]
-    };
-    let method = method_with(alloc, 0x0009, (10, 6), code.as_slice(), written, &[])?;
+    let mut frames: Vec<Frame> = Vec::new(alloc);
+    if behind == Behind::Frame {
+        frames.push((251, u16::try_from(*end).unwrap_or(0), &[], &[]))?;
+    }
+    let method = method_with(
+        alloc,
+        0x0009,
+        (10, 6),
+        code.as_slice(),
+        frames.as_slice(),
+        &[],
+    )?;
     misfit(alloc, class, &method)
 }
 
