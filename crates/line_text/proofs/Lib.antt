@@ -1,0 +1,4 @@
+pub mod Spelled
+pub mod Characters
+pub mod OneLine
+pub mod Plain
