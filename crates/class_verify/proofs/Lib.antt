@@ -4,6 +4,7 @@ pub mod Fitting
 pub mod Methods
 pub mod Points
 pub mod Safe
+pub mod Sizes
 pub mod Slots
 pub mod Stacking
 pub mod Strays

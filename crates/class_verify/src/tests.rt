@@ -5,7 +5,7 @@ mod rows;
 use crate::cause::Cause;
 use crate::constants::Use;
 use crate::sites::SiteKinds;
-use crate::verification::method_misfit;
+use crate::verification::{self, code_misfit, code_of};
 use crate::walk::Buffers;
 use class_model::{Attribute, Class, Constant, FrameType, Handler, Member, Pool, Raw, StackFrame};
 use sqlite_items::Items;
@@ -578,7 +578,16 @@ fn misfit(
         uses: Use::new(alloc),
         sites: SiteKinds::new(alloc),
     };
-    method_misfit(alloc, class, method, &mut buffers)
+    let Some(code) = code_of(method.attributes.as_slice()) else {
+        return Ok(None);
+    };
+    if code.code.is_empty()
+        || code.code.len() > 65535
+        || verification::stack_map(code.attributes).len() > 65535
+    {
+        return Err(AllocError);
+    }
+    code_misfit(alloc, class, method, code, &mut buffers)
 }
 
 #[test]

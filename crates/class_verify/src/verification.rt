@@ -1,10 +1,10 @@
 //! Verification of methods and classes.
 
-ghost use Rattle.std.specs.Prelude.{List, Option, ◌≡◌, ◌<◌, ◌≤◌, ◌∷◌, ◌++◌, [], All, IfOk, IfErr, OnOk, IsOkUnless, Some, None, length, map, option_map, unwrap_or, MatchOption};
+ghost use Rattle.std.specs.Prelude.{List, Option, ◌≡◌, ◌<◌, ◌≤◌, ◌^◌, ◌∷◌, ◌++◌, [], All, IfOk, IfErr, OnOk, IsOkUnless, Some, None, length, map, option_map, unwrap_or, MatchOption};
 ghost use Rattle.class_model.specs.declared.attribute_forms.Attribute.{out-Attribute};
 ghost use Rattle.class_model.specs.declared.stack_map.StackFrame.{StackFrame};
 ghost use Rattle.class_model.specs.Constants.{text_at};
-ghost use Rattle.class_model.specs.Shape.{Shaped, descriptor_text, name_text, is_static};
+ghost use Rattle.class_model.specs.Shape.{Shaped, IsMethod, descriptor_text, name_text, is_static};
 ghost use Rattle.class_verify.specs.declared.fault.VerifyFault.TheVariants as verify_fault;
 ghost use Rattle.class_verify.specs.Frames.{type_of, own_kinds, first_kinds, shape_of, frames_from};
 ghost use Rattle.class_verify.specs.Methods.{parts};
@@ -77,7 +77,7 @@ fn code_view(attribute: &Attribute) -> Option<CodeView<'_>>
 
 /// The code among attributes.
 #[tactic(auto, using(crate::proofs::Methods::code_step, crate::proofs::Methods::code_end))]
-fn code_of(attributes: &[Attribute]) -> Option<CodeView<'_>>
+pub(crate) fn code_of(attributes: &[Attribute]) -> Option<CodeView<'_>>
     ensures { option_map parts result ≡ code_in attributes.now }
 {
     for attribute in attributes {
@@ -100,7 +100,7 @@ fn frames_view(attribute: &Attribute) -> Option<&[StackFrame]>
 
 /// The frames of the stack map among attributes.
 #[tactic(auto, using(crate::proofs::Methods::map_step, crate::proofs::Methods::map_end))]
-fn stack_map(attributes: &[Attribute]) -> &[StackFrame]
+pub(crate) fn stack_map(attributes: &[Attribute]) -> &[StackFrame]
     ensures { result.now ≡ stack_map_in attributes.now }
 {
     for attribute in attributes {
@@ -138,24 +138,20 @@ fn signature(
     }
 }
 
-/// The shape as a method begins, given the kinds of its first locals, and the frames of its stack map. A stack map of
-/// a shaped class has fewer than 65,536 frames.
+/// The shape as a method begins, given the kinds of its first locals, and the frames of its stack map.
 fn shapes(
     alloc: Global,
     limits: Limits,
     kinds: &[ValueKind],
     attributes: &[Attribute],
 ) -> Result<(Option<Shape>, Items<Written>), AllocError>
+    requires { length (stack_map_in attributes.now) < 2 ^ 16 }
     ensures first { IfOk result (λ s. s.0 ≡ shape_of limits (map type_of kinds.now) []) }
     ensures frames { IfOk result (λ s. s.1 ≡ frames_from limits 0 (map type_of kinds.now) (stack_map_in attributes.now)) }
 {
     let types = types_of(alloc, kinds)?;
     let first = shape_of(alloc, limits, types.as_slice(), &[])?;
-    let map = stack_map(attributes);
-    if map.len() > 65535 {
-        return Err(AllocError);
-    }
-    let frames = frames_of(alloc, limits, types, map)?;
+    let frames = frames_of(alloc, limits, types, stack_map(attributes))?;
     Ok((first, frames))
 }
 
@@ -169,6 +165,7 @@ fn body<'a>(
 ) -> Result<Body<'a>, AllocError>
     requires some { 0 < length code.code.now }
     requires short { length code.code.now ≤ 65535 }
+    requires frames { length (stack_map_in code.attributes.now) < 2 ^ 16 }
     ensures ready { IfOk result (λ body. IsReady body) }
     ensures body { IfOk result (λ body. plain body ≡ body_of class.now method.now (parts code.entry)) }
 {
@@ -250,44 +247,51 @@ fn first_misfit(
     Ok(earlier(found, least_stray(body)))
 }
 
-/// The first misfit of a method.
-pub(crate) fn method_misfit(
+/// The first misfit of a method with code.
+pub(crate) fn code_misfit(
     alloc: Global,
     class: &Class,
     method: &Member,
+    code: CodeView<'_>,
     buffers: &mut Buffers,
 ) -> Result<Option<(u32, Cause)>, AllocError>
+    requires code { code_in method.now.attributes ≡ Some (parts code) }
+    requires some { 0 < length code.code.now }
+    requires short { length code.code.now ≤ 65535 }
+    requires frames { length (stack_map_in code.attributes.now) < 2 ^ 16 }
     ensures { IfOk result (λ found. MatchOption found (MethodFits class.now method.now) (λ m. IsMethodMisfit class.now method.now m.0 m.1)) }
 {
-    let Some(code) = code_of(method.attributes.as_slice()) else {
-        return Ok(None);
-    };
     if has_float(text_of(&class.pool, method.descriptor)) {
         return Ok(Some((0, Cause::FloatUsed)));
-    }
-    if code.code.is_empty() || code.code.len() > 65535 {
-        return Err(AllocError);
     }
     let body = body(alloc, class, method, code)?;
     first_misfit(alloc, &body, buffers)
 }
 
-/// A text of a shaped class that is a name.
-fn name_of(alloc: Global, text: &[u8]) -> Result<Name, AllocError>
-    ensures { IfOk result (λ name. name ≡ text.now) }
+/// The first misfit of a method.
+fn method_misfit(
+    alloc: Global,
+    class: &Class,
+    method: &Member,
+    buffers: &mut Buffers,
+) -> Result<Option<(u32, Cause)>, AllocError>
+    requires { IsMethod class.now.pool method.now }
+    ensures { IfOk result (λ found. MatchOption found (MethodFits class.now method.now) (λ m. IsMethodMisfit class.now method.now m.0 m.1)) }
 {
-    match Name::of(alloc, text) {
-        Ok(name) => Ok(name),
-        Err(_) => Err(AllocError),
+    match code_of(method.attributes.as_slice()) {
+        Some(code) => code_misfit(alloc, class, method, code, buffers),
+        None => Ok(None),
     }
 }
 
 fn method_id(alloc: Global, class: &Class, method: &Member) -> Result<MethodId, AllocError>
+    requires class { Shaped class.now }
+    requires method { IsMethod class.now.pool method.now }
     ensures { IfOk result (λ id. IsNamed class.now method.now id) }
 {
-    let name = name_of(alloc, text_of(&class.pool, method.name))?;
-    let descriptor = name_of(alloc, text_of(&class.pool, method.descriptor))?;
-    let class = name_of(alloc, class.name())?;
+    let name = Name::of_valid(alloc, text_of(&class.pool, method.name))?;
+    let descriptor = Name::of_valid(alloc, text_of(&class.pool, method.descriptor))?;
+    let class = Name::of_valid(alloc, class.name())?;
     Ok(MethodId {
         class,
         name,
@@ -309,6 +313,8 @@ fn fault_of(id: MethodId, pc: u32, cause: Cause) -> VerifyFault
 
 /// The refusal for a misfit of a method.
 fn refusal(alloc: Global, class: &Class, method: &Member, pc: u32, cause: Cause) -> VerifyFault
+    requires class { Shaped class.now }
+    requires method { IsMethod class.now.pool method.now }
     ensures { IsRefusal class.now method.now pc cause result }
 {
     match method_id(alloc, class, method) {
@@ -324,6 +330,8 @@ fn verify_methods(
     methods: &[Member],
     buffers: &mut Buffers,
 ) -> Result<(), VerifyFault>
+    requires class { Shaped class.now }
+    requires methods { All (IsMethod class.now.pool) methods.now }
     ensures ok { OnOk result (All (MethodFits class.now) methods.now) }
     ensures fault { IfErr result (λ fault. IsMisfitIn class.now methods.now fault) }
 {
@@ -338,7 +346,7 @@ fn verify_methods(
 
 /// Whether every code of a class fits (JVMS 4.10.1, over kinds). The index is asked nothing, since kinds don't ask for
 /// the hierarchy. A refusal names the first method in file order that doesn't fit, and its first misfit by pc.
-#[tactic(auto, using(crate::proofs::Verifying::only_memory))]
+#[tactic(auto, using(crate::proofs::Verifying::only_memory, crate::proofs::Sizes::all_methods))]
 pub fn verify(alloc: Global, _index: &Index, class: &Class) -> Result<(), VerifyFault>
     requires { Shaped class.now }
     ensures ok { OnOk result (Fits class.now) }
