@@ -1,5 +1,5 @@
 -- The kinds of a method's parameters are read one after another.
-use Rattle.std.proofs.Common.{◌≡◌, ℕ, zero, suc, eqb, ◌+◌, ◌<◌, ◌≤◌, Bool, true, false, List, [], ◌∷◌, ◌++◌, length, filter_map, Option, Some, None, option_map, option_and_then, refl, sym, ◌∙◌, ap, inl, inr, arith, append_assoc, append-nil}
+use Rattle.std.proofs.Common.{◌≡◌, ℕ, zero, suc, eqb, ◌<◌, ◌≤◌, false, List, [], ◌∷◌, ◌++◌, length, filter_map, Option, Some, None, option_map, option_and_then, refl, sym, ◌∙◌, ap, inl, inr, arith, append_assoc, append-nil}
 use Rattle.std.specs.Option.{option_to_list}
 use Rattle.std.specs.List.{cons_option}
 use Rattle.std.proofs.lemmas.Bool.{cases_Bool, ne_eqb}

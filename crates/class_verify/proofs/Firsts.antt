@@ -1,12 +1,12 @@
 -- The first misfit of code is the first cause at an instruction or the least stray frame.
-use Rattle.std.proofs.Common.{◌≡◌, ℕ, ◌<◌, ◌≤◌, Bool, true, false, cond, Option, Some, None, refl, sym, ap, ◌∙◌, subst, arith}
+use Rattle.std.proofs.Common.{◌≡◌, ℕ, ◌<◌, ◌≤◌, true, false, cond, Option, Some, None, refl, subst, arith}
 use Rattle.std.specs.Prelude.{Contains, MatchOption, nat_lt}
 use Rattle.std.proofs.lemmas.Bool.{ltb-true, ltb-false}
 use Rattle.class_verify.specs.declared.cause.Cause.{Cause}
 use Rattle.class_verify.specs.declared.cause.Cause.TheVariants.{BadFrame}
-use Rattle.class_verify.specs.Bodies.{Body, Point, point_of}
-use Rattle.class_verify.specs.Misfits.{cause_at, strays, IsMisfit, at_instruction, at_no_instruction, BodyFits, IsFirstMisfit}
-use Rattle.class_verify.specs.Walks.{NoneBefore, NoneAtAll, IsFirstFound, IsWalked, IsLeast, IsLeastStray, earlier}
+use Rattle.class_verify.specs.Bodies.{Body}
+use Rattle.class_verify.specs.Misfits.{strays, IsMisfit, at_instruction, at_no_instruction, BodyFits, IsFirstMisfit}
+use Rattle.class_verify.specs.Walks.{NoneBefore, NoneAtAll, IsFirstFound, IsWalked, IsLeastStray, earlier}
 
 abbrev NoStray : Body → Type 0
 NoStray body = (other : ℕ) → Contains (strays body.code body.frames) other → ⊥

@@ -1,5 +1,5 @@
 -- Attributes, frames and methods, one after another.
-use Rattle.std.proofs.Common.{◌≡◌, ℕ, ◌+◌, ◌<◌, ◌≤◌, List, [], ◌∷◌, ◌++◌, length, take, drop, get_or, Option, Some, None, refl, sym, ap, ◌∙◌, arith, append_assoc}
+use Rattle.std.proofs.Common.{◌≡◌, ℕ, ◌+◌, ◌<◌, ◌≤◌, List, [], ◌∷◌, ◌++◌, length, drop, get_or, None, sym, ap, ◌∙◌, append_assoc}
 use Rattle.std.specs.Prelude.{nat_le}
 use Rattle.std.proofs.lemmas.List.{drop_more, drop_all, append-nil}
 use Rattle.class_model.specs.declared.attribute_forms.Attribute.{Attribute, out-Attribute}
@@ -8,7 +8,7 @@ use Rattle.class_model.specs.declared.stack_map.StackFrame.{StackFrame}
 use Rattle.class_verify.specs.declared.frames.Limits.{Limits}
 use Rattle.class_verify.specs.declared.frames.Written.{Written}
 use Rattle.class_verify.specs.Frames.{chopped, types_after, written, frames_from}
-use Rattle.class_verify.specs.Verified.{CodeParts, code_or, code_in, frames_or, stack_map_in}
+use Rattle.class_verify.specs.Verified.{code_or, code_in, frames_or, stack_map_in}
 
 pub code_step : (attributes : List Attribute) (i : ℕ) (a : Attribute) → i < length attributes → a ≡ get_or attributes i a
     → code_in (drop i attributes) ≡ code_or (out-Attribute a) (code_in (drop (i + 1) attributes))

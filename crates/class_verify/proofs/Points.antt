@@ -1,5 +1,5 @@
 -- The places of instructions rise.
-use Rattle.std.proofs.Common.{◌≡◌, ℕ, zero, suc, ◌+◌, ◌<◌, ◌≤◌, Bool, true, false, not, ◌||◌, List, length, drop, Option, Some, None, Ok, Err, Result, refl, sym, ap, ◌∙◌, subst, cond, ltb, ◌⊎◌, inl, inr, arith}
+use Rattle.std.proofs.Common.{◌≡◌, ℕ, zero, suc, ◌+◌, ◌<◌, ◌≤◌, Bool, true, false, not, ◌||◌, List, length, drop, Option, Some, None, Ok, Err, Result, refl, sym, ap, ◌∙◌, subst, cond, inl, inr, arith}
 use Rattle.std.specs.Prelude.{nat_lt, option_map, option_and_then, IfSome}
 use Rattle.std.proofs.lemmas.Bool.{ltb-true, cases_eq}
 use Rattle.jvm_tables.specs.declared.code.CodeFault.{CodeFault}

@@ -1,5 +1,5 @@
 -- Code that fits is safe at each instruction that has a shape.
-use Rattle.std.proofs.Common.{◌≡◌, ℕ, zero, suc, ◌+◌, ◌<◌, ◌≤◌, Bool, true, false, not, ◌&&◌, ◌||◌, ◌==◌, eqb, cond, List, [], ◌∷◌, ◌++◌, length, drop, get_or, Option, Some, None, Ok, Err, Result, refl, sym, ap, ◌∙◌, subst, ◌⊎◌, inl, inr, arith}
+use Rattle.std.proofs.Common.{◌≡◌, ℕ, zero, suc, ◌≤◌, Bool, true, false, not, ◌&&◌, ◌||◌, ◌==◌, cond, List, [], ◌∷◌, ◌++◌, length, drop, Option, Some, None, Ok, Err, Result, refl, sym, ap, ◌∙◌, subst, inl, inr}
 use Rattle.std.specs.Prelude.{Contains, is_some, is_none, nat_lt, nat_le, map, filter, find, option_and_then, option_map}
 use Rattle.std.specs.List.{list_all}
 use Rattle.std.proofs.lemmas.Bool.{eqb-true, cases_Bool, leb-true}
@@ -19,19 +19,19 @@ use Rattle.class_model.specs.declared.class_file.Class.{Class}
 use Rattle.jvm_tables.proofs.Rows.{both}
 use Rattle.class_model.specs.declared.attribute_forms.Handler.{Handler}
 use Rattle.class_verify.specs.declared.cause.Cause.{Cause}
-use Rattle.class_verify.specs.declared.cause.Cause.TheVariants.{FloatUsed, BadCode, BadJump, UnknownBootstrap, BadFrame}
+use Rattle.class_verify.specs.declared.cause.Cause.TheVariants.{FloatUsed, BadJump, UnknownBootstrap, BadFrame}
 use Rattle.class_verify.specs.declared.frames.Written.{Written}
 use Rattle.class_verify.specs.declared.kinds.Kind.{Kind}
 use Rattle.class_verify.specs.declared.kinds.Kind.TheVariants as kinds
 use Rattle.class_verify.specs.declared.shape.Shape.{Shape}
-use Rattle.class_verify.specs.Bodies.{Body, Point, first_point, joined_to, joined, shape_before, fallen_by, fallen, following, point_of, HasShape}
+use Rattle.class_verify.specs.Bodies.{Body, Point, first_point, joined_to, joined, shape_before, fallen, following, point_of, HasShape}
 use Rattle.class_verify.specs.Decoded.{with_row, told, decoded}
 use Rattle.class_verify.specs.Effects.{limited, left, locals_after, stack_after}
 use Rattle.class_verify.specs.Floats.{uses_float}
 use Rattle.class_verify.specs.Frames.{frame_at}
-use Rattle.class_verify.specs.Kinds.{is_kind, fits, all_fit, is_reference}
-use Rattle.class_verify.specs.Laws.{IsMet, IsCaught, IsSafe, EachIsSafe}
-use Rattle.class_verify.specs.Misfits.{unless, ◌<|>◌, is_float_frame, is_result, ends_well, is_sound_after, is_sound, named_cause, cause_of, by_decoded, cause_at, strays, IsMisfit, at_instruction, at_no_instruction, BodyFits}
+use Rattle.class_verify.specs.Kinds.{fits, all_fit}
+use Rattle.class_verify.specs.Laws.{IsMet, IsCaught, EachIsSafe}
+use Rattle.class_verify.specs.Misfits.{unless, ◌<|>◌, is_float_frame, is_result, ends_well, is_sound_after, is_sound, named_cause, cause_of, by_decoded, cause_at, strays, at_instruction, at_no_instruction, BodyFits}
 use Rattle.class_verify.specs.Places.{next_place, leads_to, begins}
 use Rattle.class_verify.specs.Shapes.{shape_fits}
 use Rattle.class_verify.specs.Sites.{has_unknown_site}

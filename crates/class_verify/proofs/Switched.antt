@@ -1,5 +1,5 @@
 -- The targets of a switch, key by key.
-use Rattle.std.proofs.Common.{◌≡◌, ℕ, ◌+◌, ◌<◌, ◌≤◌, Bool, true, false, ◌&&◌, List, [], ◌∷◌, length, take, drop, map, get_or, Option, Some, None, refl, sym, ap, ◌∙◌, arith}
+use Rattle.std.proofs.Common.{◌≡◌, ℕ, ◌+◌, ◌<◌, ◌≤◌, Bool, true, false, ◌&&◌, List, [], length, take, drop, map, get_or, Some, refl, sym, ap, ◌∙◌, arith}
 use Rattle.std.specs.Prelude.{slice_get, ℤ, option_map}
 use Rattle.std.specs.List.{list_all}
 use Rattle.std.proofs.lemmas.List.{take_all, length-map}
@@ -11,7 +11,7 @@ use Rattle.jvm_tables.specs.declared.instruction.Form.TheVariants as forms
 use Rattle.jvm_tables.specs.Agreement.{is_switch}
 use Rattle.jvm_tables.specs.Opcodes.{row_of}
 use Rattle.jvm_tables.specs.Switches.{pairs_of, target}
-use Rattle.jvm_tables.specs.Switching.{form_of, pairs_at, cases_at}
+use Rattle.jvm_tables.specs.Switching.{form_of, cases_at}
 
 abbrev pub places : List (ℤ × ℕ) → List ℕ
 places cases = map (λ (c : ℤ × ℕ). c.1) cases

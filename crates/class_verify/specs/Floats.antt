@@ -1,5 +1,5 @@
 -- Which instructions use floats or doubles (JVMS 6.5, 4.4).
-use Rattle.std.specs.Prelude.{ℕ, Bool, true, false, not, ◌&&◌, ◌||◌, ◌==◌, nat_lt, List, [], ◌∷◌}
+use Rattle.std.specs.Prelude.{ℕ, Bool, true, false, not, ◌&&◌, ◌||◌, ◌==◌, nat_lt, List}
 use Rattle.std.specs.List.{list_any}
 use Rattle.jvm_tables.specs.declared.code.Instr.{Instr}
 use Rattle.jvm_tables.specs.declared.instruction.OpRow.{OpRow}

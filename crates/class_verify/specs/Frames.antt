@@ -1,5 +1,5 @@
 -- The frames that a stack map writes (JVMS 4.7.4).
-use Rattle.std.specs.Prelude.{ℕ, ◌+◌, ◌-◌, Bool, ◌||◌, ◌==◌, nat_lt, nat_le, List, [], ◌∷◌, ◌++◌, length, take, map, flat_map, replicate, reverse, find, Option, Some, None, if◌then◌else◌}
+use Rattle.std.specs.Prelude.{ℕ, ◌+◌, ◌-◌, Bool, ◌||◌, ◌==◌, nat_lt, nat_le, List, [], ◌∷◌, ◌++◌, length, take, flat_map, replicate, reverse, find, Option, Some, None, if◌then◌else◌}
 use Rattle.std.specs.List.{list_any}
 use Rattle.jvm_tables.specs.declared.instruction.ValueKind.{ValueKind}
 use Rattle.jvm_tables.specs.declared.instruction.ValueKind.TheVariants as values

@@ -1,5 +1,5 @@
 -- Locals, which are slots from 0 on.
-use Rattle.std.specs.Prelude.{ℕ, zero, suc, ◌+◌, nat_lt, Bool, false, List, [], length, slice_get, slice_set, Option, Some, None, if◌then◌else◌}
+use Rattle.std.specs.Prelude.{ℕ, zero, suc, ◌+◌, nat_lt, Bool, false, List, length, slice_get, slice_set, Option, Some, None, if◌then◌else◌}
 use Rattle.jvm_tables.specs.declared.instruction.ValueKind.{ValueKind}
 use Rattle.jvm_tables.specs.declared.instruction.ValueKind.TheVariants as values
 use Rattle.class_verify.specs.declared.kinds.Kind.{Kind}

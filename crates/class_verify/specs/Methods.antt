@@ -1,5 +1,4 @@
 -- What the code keeps of a method with code.
-use Rattle.std.specs.Prelude.{ℕ, List, Option, Some, None}
 use Rattle.class_verify.specs.declared.verification.CodeView as views
 use Rattle.class_verify.specs.Verified.{CodeParts}
 

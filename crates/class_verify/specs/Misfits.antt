@@ -9,7 +9,7 @@ use Rattle.jvm_tables.specs.declared.instruction.OpRow.{OpRow}
 use Rattle.jvm_tables.specs.declared.instruction.ValueKind.{ValueKind}
 use Rattle.jvm_tables.specs.Agreement.{is_nothing, is_one}
 use Rattle.class_verify.specs.declared.cause.Cause.{Cause}
-use Rattle.class_verify.specs.declared.cause.Cause.TheVariants.{FloatUsed, BadCode, BadJump, UnknownBootstrap, BadFrame}
+use Rattle.class_verify.specs.declared.cause.Cause.TheVariants.{FloatUsed, BadJump, UnknownBootstrap, BadFrame}
 use Rattle.class_verify.specs.declared.frames.Written.{Written}
 use Rattle.class_verify.specs.declared.shape.Shape.{Shape}
 use Rattle.class_verify.specs.Bodies.{Body, Point, point_of, shape_before}

@@ -13,7 +13,7 @@ use Rattle.class_model.specs.declared.constant_pool.Pool.{Pool}
 use Rattle.class_model.specs.declared.constant_pool.Constant.{Constant}
 use Rattle.class_model.specs.declared.constant_pool.Constant.TheVariants as constants
 use Rattle.class_model.specs.Constants.{constant_at, text_at, is_some_that}
-use Rattle.class_model.specs.Descriptors.{FieldType, primitive, object, array}
+use Rattle.class_model.specs.Descriptors.{FieldType, object}
 use Rattle.class_verify.specs.Types.{Signature, signature_of, gives}
 use Rattle.class_verify.specs.Constants.{constant_of, descriptor_at}
 use Rattle.class_verify.specs.Bootstraps.{bootstrap_at, metafactory, concatenating, is_bootstrap_by}

@@ -1,5 +1,5 @@
 -- The operand stack, its top first. A long has Top above its Long.
-use Rattle.std.specs.Prelude.{Bool, ◌&&◌, ◌||◌, List, [], ◌∷◌, ◌++◌, reverse, Option, Some, None, option_map, option_and_then, if◌then◌else◌}
+use Rattle.std.specs.Prelude.{List, [], ◌∷◌, ◌++◌, Option, Some, None, option_map, option_and_then, if◌then◌else◌}
 use Rattle.jvm_tables.specs.declared.instruction.Operation.{Operation}
 use Rattle.jvm_tables.specs.declared.instruction.Operation.TheVariants as operations
 use Rattle.jvm_tables.specs.declared.instruction.ValueKind.{ValueKind}

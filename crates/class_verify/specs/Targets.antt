@@ -1,6 +1,5 @@
 -- Where control goes from an instruction (JVMS 6.5), and what stands there.
 use Rattle.std.specs.Prelude.{ℕ, Bool, true, false, not, ◌&&◌, ◌||◌, nat_lt, nat_le, List, [], ◌∷◌, map, Option, Some, None}
-use Rattle.std.specs.List.{list_all}
 use Rattle.jvm_tables.specs.declared.code.Instr.{Instr}
 use Rattle.jvm_tables.specs.declared.instruction.Flow.{Flow}
 use Rattle.jvm_tables.specs.declared.instruction.Flow.TheVariants as flows

@@ -1,5 +1,5 @@
 -- Verified methods, classes and programs.
-use Rattle.std.specs.Prelude.{◌≡◌, ℕ, true, false, List, [], ◌∷◌, ◌++◌, length, map, All, Option, Some, None}
+use Rattle.std.specs.Prelude.{◌≡◌, ℕ, true, false, List, [], ◌∷◌, ◌++◌, map, All, Option, Some, None}
 use Rattle.class_model.specs.declared.attribute_forms.Attribute.{Attribute, out-Attribute}
 use Rattle.class_model.specs.declared.attribute_forms.Attribute.TheOpen.{Attribute-F}
 use Rattle.class_model.specs.declared.attribute_forms.Handler.{Handler}
