@@ -13,10 +13,10 @@ ghost use Rattle.class_verify.specs.Targets.{targets_by, accepts, is_accepted, f
 
 use crate::frames::{Limits, Written};
 use crate::locals::Locals;
-use crate::places::next_place;
+use crate::places::place_behind;
 use crate::shape::Shape;
 use class_model::{Class, Handler};
-use jvm_tables::{Flow, Instr, Operands, ValueKind, is_switch, switch_case, switch_len};
+use jvm_tables::{Flow, Instr, OpRow, Operands, ValueKind, is_switch, switch_case, switch_len};
 use sqlite_items::Items;
 
 /// The code of a method, with tables by pc.
@@ -221,14 +221,16 @@ impl Body<'_> {
     }
 
     /// Whether control that goes on finds an instruction, and control that returns has the result.
-    pub(crate) fn ends_well(&self, pc: usize, flow: Flow, takes: Operands) -> bool
-        requires ready { IsReady self.now }
-        requires within { pc < length self.now.code.now }
-        ensures { result ≡ ends_well (plain self.now) pc flow takes }
+    pub(crate) fn ends_well(&self, instr: &Instr, row: &OpRow) -> bool
+        requires decoded { decoding instr.now.pc (drop instr.now.pc self.now.code.now) ≡ Ok instr.now }
+        requires within { instr.now.pc < length self.now.code.now }
+        ensures { result ≡ ends_well (plain self.now) instr.now.pc row.now.flow row.now.takes }
     {
-        match flow {
-            Flow::Next | Flow::Branch => next_place(self.code, pc).is_some(),
-            Flow::Return => is_result(self.result, takes),
+        match row.flow {
+            Flow::Next | Flow::Branch => {
+                place_behind(self.code, instr.pc as usize, instr).is_some()
+            }
+            Flow::Return => is_result(self.result, row.takes),
             Flow::Jump | Flow::Switch | Flow::Throw => true,
         }
     }

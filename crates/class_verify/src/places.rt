@@ -1,13 +1,13 @@
 //! Where instructions begin, and where frames stand.
 
-ghost use Rattle.std.specs.Prelude.{◌≡◌, ◌+◌, ◌<◌, ◌≤◌, IfOk, None, drop, length, option_and_then, slice_set, replicate, false, Some, IfSome};
+ghost use Rattle.std.specs.Prelude.{◌≡◌, ◌+◌, ◌<◌, ◌≤◌, IfOk, None, drop, length, option_and_then, slice_set, replicate, false, Some, Ok, IfSome};
 ghost use Rattle.jvm_tables.specs.Decoding.{decoding};
 ghost use Rattle.jvm_tables.specs.Opcodes.{row_of};
 ghost use Rattle.class_verify.specs.Places.{float_length, length_by, within, next_place};
 ghost use Rattle.class_verify.specs.Ready.{IsMarked, IsFramed};
 
 use crate::frames::Written;
-use jvm_tables::{CodeFault, OpRow, decode, op_row};
+use jvm_tables::{CodeFault, Instr, OpRow, decode, op_row};
 use std::alloc::{AllocError, Global};
 
 fn float_length(row: &OpRow) -> Option<usize>
@@ -68,6 +68,18 @@ pub(crate) fn next_place(code: &[u8], pc: usize) -> Option<usize>
         Some(len) => within(code, pc, len),
         None => None,
     }
+}
+
+/// Where the next instruction begins, behind one that decodes.
+#[tactic(auto, unfolding(crate::specs::Places::next_place))]
+pub(crate) fn place_behind(code: &[u8], pc: usize, instr: &Instr) -> Option<usize>
+    requires within { pc < length code.now }
+    requires decoded { decoding pc (drop pc code.now) ≡ Ok instr.now }
+    ensures value { result ≡ next_place code.now pc }
+    ensures rises { IfSome result (λ next. pc < next) }
+    ensures inside { IfSome result (λ next. next < length code.now) }
+{
+    within(code, pc, instr.length as usize)
 }
 
 fn no_marks(alloc: Global, len: usize) -> Result<Vec<bool>, AllocError>

@@ -21,7 +21,7 @@ use crate::constants::Use;
 use crate::effects::leave;
 use crate::floats::uses_float;
 use crate::frames::Written;
-use crate::places::next_place;
+use crate::places::place_behind;
 use crate::shape::Shape;
 use crate::sites::SiteKinds;
 use jvm_tables::{CodeFault, Flow, Instr, OpRow, decode, op_row};
@@ -132,14 +132,13 @@ fn check_shape(
         ((is_sound (plain body.now) row.now instr.now (Some shape.old) ≡ true) × (left body.now.class.now body.now.limits.stack row.now instr.now shape.old ≡ Some shape.new))
         (is_sound (plain body.now) row.now instr.now (Some shape.old) ≡ false)) }
 {
-    let pc = instr.pc as usize;
-    if !body.all_catch(pc, &shape.locals) {
+    if !body.all_catch(instr.pc as usize, &shape.locals) {
         return Ok(false);
     }
     if !leave(body.class, body.limits.stack, row, instr, shape, uses)? {
         return Ok(false);
     }
-    Ok(body.targets_accept(shape, row.flow, instr) && body.ends_well(pc, row.flow, row.takes))
+    Ok(body.targets_accept(shape, row.flow, instr) && body.ends_well(instr, row))
 }
 
 /// Looks for a cause at an instruction that decodes, and leaves in the spot what it leaves.
@@ -193,7 +192,7 @@ fn step(body: &Body<'_>, spot: &mut Spot, buffers: &mut Buffers) -> Result<bool,
         Err(cause) => return Err(Stop::Misfit(cause)),
     };
     check(body, &instr, &row, spot, buffers)?;
-    match next_place(body.code, spot.pc) {
+    match place_behind(body.code, spot.pc, &instr) {
         Some(pc) => {
             spot.pc = pc;
             spot.is_reached = falls(row.flow);
