@@ -10,5 +10,6 @@ pub mod Stacking
 pub mod Strays
 pub mod Switched
 pub mod Tables
+pub mod Uses
 pub mod Verifying
 pub mod Walking

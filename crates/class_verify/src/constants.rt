@@ -1,9 +1,11 @@
 //! What instructions take and give where their constants say it (JVMS 6.5, 4.4).
 
-ghost use Rattle.std.specs.Prelude.{◌≡◌, ◌==◌, [], IfOk, OnOk, option_map, option_and_then, option_copied, replicate};
+ghost use Rattle.std.specs.Prelude.{◌≡◌, ◌==◌, [], Some, IfOk, IfSome, OnOk, option_map, option_and_then, option_copied, replicate};
 ghost use Rattle.std.specs.List.{list_any};
+ghost use Rattle.jvm_tables.specs.declared.code.Instr.{Instr};
 ghost use Rattle.jvm_tables.specs.declared.instruction.ValueKind.TheVariants.{Int};
 ghost use Rattle.jvm_tables.specs.Agreement.{uses_constant};
+ghost use Rattle.class_model.specs.declared.class_file.Class.{Class};
 ghost use Rattle.class_verify.specs.Types.{kind_of, signature_of};
 ghost use Rattle.class_verify.specs.Constants.{number_of, constant_of, descriptor_at, name_at, is_bracket, dimensions_of, may_name, tags, descriptor_named, loaded, long_loaded, names_class, pushes, field_use, call_use, by_constant, said, values, use_of, if_told, use_if_told};
 
@@ -284,6 +286,19 @@ fn uses_constant(named: ConstantUse) -> bool
     ensures { result ≡ uses_constant named }
 {
     !matches!(named, ConstantUse::Nothing)
+}
+
+/// What an instruction takes and gives, where its row alone tells both.
+#[tactic(auto, using(crate::proofs::Uses::use_by_row))]
+pub(crate) fn told_by_row(row: &OpRow) -> Option<(&'static [ValueKind], &'static [ValueKind])>
+    ensures { IfSome result (λ told. (class : Class) (instr : Instr) → use_of class row.now instr ≡ Some (record { takes = told.0.now; gives = told.1.now })) }
+{
+    if uses_constant(row.constant) {
+        return None;
+    }
+    let takes = row.takes.kinds()?;
+    let gives = row.gives.kinds()?;
+    Some((takes, gives))
 }
 
 impl Use {

@@ -1,11 +1,12 @@
 //! What an instruction leaves on the operand stack and in the locals.
 
-ghost use Rattle.std.specs.Prelude.{◌≡◌, ◌<◌, ◌^◌, ◌||◌, None, Some, IfOk, MatchBool};
+ghost use Rattle.std.specs.Prelude.{◌≡◌, ◌<◌, ◌^◌, ◌||◌, None, Some, IfOk, MatchBool, option_map, reverse};
 ghost use Rattle.jvm_tables.specs.Agreement.{names_local, increments};
 ghost use Rattle.class_verify.specs.Effects.{is_slots, used, stack_after, local_of, is_read, with_store, locals_after, left};
 ghost use Rattle.class_verify.specs.Constants.{use_of};
+ghost use Rattle.class_verify.specs.Stacks.{below_values, with_values};
 
-use crate::constants::{Use, number_of};
+use crate::constants::{Use, number_of, told_by_row};
 use crate::locals::Locals;
 use crate::shape::Shape;
 use crate::stack::Stack;
@@ -19,6 +20,19 @@ fn is_slots(operands: Operands) -> bool
     matches!(operands, Operands::Slots(_))
 }
 
+/// Takes values off the stack, if they are there, and puts others on it.
+fn exchange(stack: &mut Stack, takes: &[ValueKind], gives: &[ValueKind]) -> Result<bool, AllocError>
+    ensures { IfOk result (λ is_there. MatchBool is_there
+        (option_map (with_values gives.now) (below_values (reverse takes.now) stack.old) ≡ Some stack.new)
+        (option_map (with_values gives.now) (below_values (reverse takes.now) stack.old) ≡ None)) }
+{
+    if !stack.take_values(takes) {
+        return Ok(false);
+    }
+    stack.put_values(gives)?;
+    Ok(true)
+}
+
 /// Takes and puts what the row or the constant of an instruction tells, if they are there.
 fn use_values(
     class: &Class,
@@ -29,14 +43,13 @@ fn use_values(
 ) -> Result<bool, AllocError>
     ensures { IfOk result (λ is_there. MatchBool is_there (used (use_of class.now row.now instr.now) stack.old ≡ Some stack.new) (used (use_of class.now row.now instr.now) stack.old ≡ None)) }
 {
+    if let Some((takes, gives)) = told_by_row(row) {
+        return exchange(stack, takes, gives);
+    }
     if !uses.fill(class, row, instr)? {
         return Ok(false);
     }
-    if !stack.take_values(uses.takes.as_slice()) {
-        return Ok(false);
-    }
-    stack.put_values(uses.gives.as_slice())?;
-    Ok(true)
+    exchange(stack, uses.takes.as_slice(), uses.gives.as_slice())
 }
 
 #[tactic(auto, unfolding(crate::specs::Effects::stack_after))]
