@@ -154,7 +154,7 @@ fn is_code(attribute: &Attribute) -> bool
     }
 }
 
-fn has_code(attributes: &[Attribute]) -> bool
+pub(crate) fn has_code(attributes: &[Attribute]) -> bool
     ensures { result ≡ has_code attributes.now }
 {
     attributes.iter().any(|attribute| is_code(attribute))
