@@ -78,7 +78,7 @@ pub pool_there : (file : List ℕ) (at : ℕ) (p : Pool) (rest : List ℕ) → I
 pool_there file at p rest is spelled = ap (pool_at (length file)) spelled ∙ pool_again (length file) p rest is
 
 -- a reading that succeeds has no fault but a want of memory
-never : (bytes : List ℕ) (c : Class) (e : ClassFault) → class_of bytes ≡ Ok c → Fails e (class_of bytes) → e ≡ Memory
+pub never : (bytes : List ℕ) (c : Class) (e : ClassFault) → class_of bytes ≡ Ok c → Fails e (class_of bytes) → e ≡ Memory
 never bytes c Memory ok f = refl
 never bytes c BadMagic ok f = absurd (let h = sym f ∙ ok in cc)
 never bytes c (BadMajor v) ok f = absurd (let h = sym f ∙ ok in cc)

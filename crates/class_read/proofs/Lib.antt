@@ -3,3 +3,6 @@ pub mod Depths
 pub mod Firsts
 pub mod Files
 pub mod Entered
+pub mod ClassFileLemmas
+pub mod TwiceLemmas
+pub mod Acceptance

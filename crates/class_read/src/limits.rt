@@ -1,11 +1,12 @@
 //! How many classes a build may have, and how many methods with code.
 
-ghost use Rattle.std.specs.Prelude.{◌≡◌, ◌<◌, nat_lt, MatchOption};
+ghost use Rattle.std.specs.Prelude.{◌≡◌, ◌<◌, count_by, nat_lt, MatchOption};
+ghost use Rattle.class_model.specs.Shape.{has_code};
 ghost use Rattle.class_read.specs.declared.limits.Limit.TheVariants.{Methods};
-ghost use Rattle.class_read.specs.Limits.{most, code_count, count_of, IsFirstPassed, IsWithinLimits};
+ghost use Rattle.class_read.specs.Limits.{most, count_of, IsFirstPassed, IsWithinLimits};
 
 use crate::members::has_code;
-use class_model::Class;
+use class_model::{Class, Member};
 use std::fmt;
 
 /// What a build may have only so many of.
@@ -39,15 +40,22 @@ impl fmt::Display for Limit {
     }
 }
 
-fn code_count(class: &Class) -> usize
-    ensures { result ≡ code_count class.now }
+fn is_counted(method: &Member) -> bool
+    ensures { result ≡ has_code method.now.attributes }
 {
-    class
-        .methods
-        .as_slice()
-        .iter()
-        .filter(|method| has_code(method.attributes.as_slice()))
-        .count()
+    has_code(method.attributes.as_slice())
+}
+
+fn counted(methods: &[Member]) -> usize
+    ensures { result ≡ count_by (λ m. has_code m.attributes) methods.now }
+{
+    let mut count = 0;
+    for method in methods {
+        if is_counted(method) {
+            count += 1;
+        }
+    }
+    count
 }
 
 /// Whether the classes have more methods with code than so many.
@@ -56,7 +64,7 @@ fn have_more_methods(classes: &[Class], most: usize) -> bool
 {
     let mut left = most;
     for class in classes {
-        let count = code_count(class);
+        let count = counted(class.methods.as_slice());
         if left < count {
             return true;
         }

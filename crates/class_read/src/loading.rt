@@ -29,18 +29,24 @@ pub fn is_class_path(path: &[u8]) -> bool
     path.starts_with(b"classes/") && path.ends_with(b".class")
 }
 
-/// The class of the file at a path.
-fn class_at(alloc: Global, path: &Path, bytes: &Bytes) -> Result<Class, LoadFault>
-    requires { length bytes.now < 2 ^ 32 }
-    ensures read { IfOk result (λ class. class_of bytes.now ≡ Ok class) }
+/// The class of a class file.
+fn class_at(alloc: Global, file: &(Path, Bytes)) -> Result<Class, LoadFault>
+    requires { length file.now.1 < 2 ^ 32 }
+    ensures read { IfOk result (λ class. class_of file.now.1 ≡ Ok class) }
     ensures shaped { IfOk result Shaped }
-    ensures fault { IfErr result (λ fault. IsBadAt path.now bytes.now fault) }
+    ensures fault { IfErr result (λ fault. IsBadAt file.now.0 file.now.1 fault) }
 {
-    match read_class(alloc, bytes.as_slice()) {
+    match read_class(alloc, file.1.as_slice()) {
         Ok(class) => Ok(class),
         Err(ClassFault::Memory) => Err(LoadFault::Memory),
-        Err(fault) => Err(LoadFault::BadClass(path.copy()?, fault)),
+        Err(fault) => Err(LoadFault::BadClass(file.0.copy()?, fault)),
     }
+}
+
+fn is_class_file(file: &(Path, Bytes)) -> bool
+    ensures { result ≡ is_class_path file.now.0 }
+{
+    is_class_path(file.0.as_slice())
 }
 
 /// The classes of the class files among files.
@@ -51,9 +57,12 @@ fn classes_in(alloc: Global, files: &[(Path, Bytes)]) -> Result<Vec<Class>, Load
     ensures fault { IfErr result (λ fault. IsLoadFaultOf files.now fault) }
 {
     let mut classes = Vec::new(alloc);
-    for (path, bytes) in files {
-        if is_class_path(path.as_slice()) {
-            classes.push(class_at(alloc, path, bytes)?)?;
+    for file in files {
+        if is_class_file(file) {
+            match class_at(alloc, file) {
+                Ok(class) => classes.push(class)?,
+                Err(fault) => return Err(fault),
+            }
         }
     }
     Ok(classes)
@@ -69,7 +78,8 @@ fn of_names(fault: ProgramFault) -> LoadFault
 }
 
 fn of_check(fault: CheckFault) -> LoadFault
-    ensures { (classes : List Class) → IsEachOnce classes → IsWithinLimits classes → IsCheckFaultOf classes fault → IsSetFaultOf classes result }
+    ensures { (classes : List Class) → IsEachOnce classes → IsWithinLimits classes
+        → IsCheckFaultOf classes fault → IsSetFaultOf classes result }
 {
     match fault {
         CheckFault::Index(IndexFault::Memory) => LoadFault::Memory,
@@ -109,9 +119,12 @@ pub fn load_set(alloc: Global, files: &Tree) -> Result<ProgramOk, LoadFault>
     ensures within { IfOk result IsWithinLimits }
     ensures fault { IfErr result (λ fault. IsLoadFaultOf files.now fault) }
     // Verified classes within the limits are accepted.
-    ensures only { (classes : List Class) → AreClassesOf files.now classes → IsVerified classes → IsWithinLimits classes
+    ensures only { (classes : List Class) → AreClassesOf files.now classes → IsVerified classes
+        → IsWithinLimits classes
         → MatchResult result (λ program. program ≡ classes) (λ fault. fault ≡ LoadFault.Memory) }
 {
-    let classes = classes_in(alloc, files.as_slice())?;
-    verified(alloc, classes)
+    match classes_in(alloc, files.as_slice()) {
+        Ok(classes) => verified(alloc, classes),
+        Err(fault) => Err(fault),
+    }
 }

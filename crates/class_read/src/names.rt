@@ -1,8 +1,9 @@
 //! Names that more than one class has.
 
-ghost use Rattle.std.specs.Prelude.{◌≡◌, All, None, IfOk, IfErr, OnOk, MatchOption, option_copied};
-ghost use Rattle.class_model.specs.Shape.{Shaped};
-ghost use Rattle.class_index.specs.Least.{IsIn, IsLeast, lesser_of, least_from};
+ghost use Rattle.std.specs.Prelude.{◌≡◌, All, Some, None, is_some, if◌then◌else◌, IfOk, IfErr, OnOk, option_copied};
+ghost use Rattle.jvm_tables.specs.Externals.{external_of};
+ghost use Rattle.class_model.specs.Shape.{Shaped, class_name};
+ghost use Rattle.class_index.specs.Least.{lesser_of, least_from};
 ghost use Rattle.class_read.specs.Twice.{external_names, IsEachOnce, IsNameFault};
 
 use class_model::{Class, Name, Program, ProgramFault};
@@ -23,16 +24,34 @@ fn lesser<'a>(least: Option<&'a [u8]>, name: &'a [u8]) -> &'a [u8]
     }
 }
 
+fn is_external(name: &[u8]) -> bool
+    ensures { result ≡ is_some (external_of name.now) }
+{
+    external(name).is_some()
+}
+
+/// The lesser of a name and that of the class, if an external class has it too.
+fn least_with<'a>(least: Option<&'a [u8]>, class: &'a Class) -> Option<&'a [u8]>
+    ensures { option_copied result ≡ (if is_some (external_of (class_name class.now))
+        then Some (lesser_of (option_copied least.entry) (class_name class.now))
+        else option_copied least.entry) }
+{
+    let name = class.name();
+    if is_external(name) {
+        Some(lesser(least, name))
+    } else {
+        least
+    }
+}
+
 /// The least name that a class and an external one have.
+#[tactic(auto, using(crate::proofs::TwiceLemmas::external_more))]
 fn least_external(classes: &[Class]) -> Option<&[u8]>
     ensures { option_copied result ≡ least_from None (external_names classes.now) }
 {
     let mut least = None;
     for class in classes {
-        let name = class.name();
-        if external(name).is_some() {
-            least = Some(lesser(least, name));
-        }
+        least = least_with(least, class);
     }
     least
 }
