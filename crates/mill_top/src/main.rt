@@ -20,6 +20,8 @@ mod reading;
 mod recorded;
 mod replay;
 mod replay_steps;
+#[cfg(test)]
+mod replay_tests;
 mod reply;
 mod sending;
 mod small_file;
