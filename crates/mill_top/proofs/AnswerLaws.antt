@@ -17,11 +17,12 @@ use Rattle.mill_top.specs.declared.reply.Reply.TheVariants.{Value, NoTask, Store
 use Rattle.mill_top.specs.declared.takes.Found.{Found}
 use Rattle.mill_top.specs.declared.task_file.TaskFile.{TaskFile}
 use Rattle.mill_top.specs.Graphs.{build_graph, named, task_in, refusal_of_build, plan, plan_in, task_name}
+use Rattle.mill_top.specs.Loading.{IsUnloaded}
 use Rattle.mill_top.specs.Replies.{build_reply, refusal_by, refusal}
 use Rattle.mill_top.specs.Scratch.{scratch}
 use Rattle.mill_top.specs.Takes.{Take, task_of, seen, given}
 use Rattle.mill_top.specs.Leaving.{after_takes, MayLeave}
-use Rattle.mill_top.specs.Answers.{IsUnlessMemory, IsEvaluation, AreTaken, IsValue, IsEvaluated, IsRefused, IsAnswer}
+use Rattle.mill_top.specs.Answers.{IsUnlessMemory, IsEvaluation, AreTaken, IsValue, IsEvaluated, IsRefused, IsAnswerOfLoaded, IsAnswer}
 use Rattle.mill_top.specs.Walks.{latest_value, IsWalked, IsStopped}
 use Rattle.mill_top.proofs.PlanLaws.{task_is, plan-last}
 use Rattle.mill_top.proofs.ScratchLaws.{absent-scratch, known-scratch}
@@ -41,7 +42,7 @@ by_evaluated : (inputs : Record) (task : List ℕ) (before now : ℕ) (numbers :
 by_evaluated inputs task before now numbers old new reply takes r none h = rw none h
 
 pub evaluated_answer : (inputs : Record) (task : List ℕ) (before now : ℕ) (numbers : Numbers) (old new : Option Files) (reply : Reply) (takes : List (List ℕ × Found)) → refusal inputs task ≡ None
-    → IsEvaluated inputs task before now numbers old new reply takes → IsAnswer inputs task before now numbers old new reply takes
+    → IsEvaluated inputs task before now numbers old new reply takes → IsAnswerOfLoaded inputs task before now numbers old new reply takes
 evaluated_answer inputs task before now numbers old new reply takes accepted h = by_evaluated inputs task before now numbers old new reply takes (refusal inputs task) accepted h
 
 memory_evaluated : (inputs : Record) (task : List ℕ) (before now : ℕ) (numbers : Numbers) (content : Option Files) → IsEvaluated inputs task before now numbers content content Memory []
@@ -66,9 +67,9 @@ by_refused inputs task before now numbers content reply r is = rw is (record { r
 
 -- nothing is taken where the record is refused, or memory was wanted before it was clear
 pub nothing_answer : (inputs : Record) (task : List ℕ) (before now : ℕ) (numbers : Numbers) (content : Option Files) (reply : Reply) → (reply ≡ Memory) ⊎ (refusal inputs task ≡ Some reply)
-    → IsAnswer inputs task before now numbers content content reply []
+    → IsAnswerOfLoaded inputs task before now numbers content content reply []
 nothing_answer inputs task before now numbers content reply (inl wanted) =
-    subst (λ r. IsAnswer inputs task before now numbers content content r []) (sym wanted) (by_memory inputs task before now numbers content (refusal inputs task))
+    subst (λ r. IsAnswerOfLoaded inputs task before now numbers content content r []) (sym wanted) (by_memory inputs task before now numbers content (refusal inputs task))
 nothing_answer inputs task before now numbers content reply (inr is) = by_refused inputs task before now numbers content reply (refusal inputs task) is
 
 -- ---- an evaluation, from the walk along the plan
@@ -197,3 +198,12 @@ pub refused_build : (inputs : Record) (task : List ℕ) (fault : BuildFault) (re
     → (reply ≡ Memory) ⊎ (refusal inputs task ≡ Some reply)
 refused_build inputs task fault reply same (inl is) = inr (build_refused inputs task fault is ∙ ap (λ r. Some r) (sym same))
 refused_build inputs task fault reply same (inr wanted) = inl (same ∙ ap build_reply wanted)
+
+-- ---- class files that aren't loaded
+
+pub unloaded_answer : (inputs : Record) (task : List ℕ) (before now : ℕ) (numbers : Numbers) (content : Option Files) (fault : BuildFault) (reply : Reply) → reply ≡ build_reply fault
+    → ((own : BuildFault) × IsUnloaded inputs.files own × ((fault ≡ own) ⊎ (fault ≡ faults.Memory))) → IsAnswer inputs task before now numbers content content reply []
+unloaded_answer inputs task before now numbers content fault reply same (own, unloaded, inl is) =
+    inl (own, unloaded, record { reply_is = inl (same ∙ ap build_reply is); nothing_taken = refl; out = refl })
+unloaded_answer inputs task before now numbers content fault reply same (own, unloaded, inr wanted) =
+    inl (own, unloaded, record { reply_is = inr (same ∙ ap build_reply wanted); nothing_taken = refl; out = refl })

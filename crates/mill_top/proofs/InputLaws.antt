@@ -12,7 +12,8 @@ use Rattle.tree_value.specs.Nets.{net}
 use Rattle.tree_value.proofs.NetLemmas.{net-parts, same_net}
 use Rattle.tree_value.proofs.DigestLemmas.{IsDigest-sha256, same_hex}
 use Rattle.mill_top.specs.declared.recorded.Record.{Record}
-use Rattle.mill_top.specs.Builds.{class_files, task_file_of}
+use Rattle.class_read.specs.ClassFiles.{class_files}
+use Rattle.mill_top.specs.Builds.{task_file_of}
 use Rattle.mill_top.specs.Graphs.{task_files, task_in, graph_of}
 use Rattle.mill_top.specs.Inputs.{nets, paths_and_bytes, whole_row, method_of, method_text, value_fields, input_text, input_hash, scratch_values, Run, texts, Clean, IsDigested}
 use Rattle.mill_top.specs.Scratch.{scratch, scratch_in}

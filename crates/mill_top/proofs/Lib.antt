@@ -21,6 +21,7 @@ pub mod RowLaws
 pub mod ValueLaws
 pub mod StandingLaws
 pub mod PlannedLaws
+pub mod LoadingLaws
 pub mod AnswerLaws
 pub mod TopLaws
 pub mod LossLaws

@@ -1,5 +1,5 @@
 -- Laws of files in order and of reading them one by one.
-use Rattle.std.proofs.Common.{◌≡◌, ℕ, zero, suc, ◌+◌, ◌<◌, ◌≤◌, false, cond, List, [], ◌∷◌, ◌++◌, length, get_or, take, Option, Some, None, IfSome, refl, sym, ap, subst, ◌∙◌, append_assoc, arith}
+use Rattle.std.proofs.Common.{◌≡◌, ℕ, zero, suc, ◌+◌, ◌-◌, ◌<◌, ◌≤◌, false, cond, List, [], ◌∷◌, ◌++◌, length, get_or, take, Option, Some, None, IfSome, refl, sym, ap, subst, ◌∙◌, append_assoc, arith}
 use Rattle.std.specs.declared.cmp.Ordering.TheVariants.{Less}
 use Rattle.std.specs.Ordering.{is_eq, ordering_reverse, eq_by_cmp}
 use Rattle.std.specs.Cmp.{tied_itself}
@@ -7,7 +7,7 @@ use Rattle.std.specs.List.{AllByRecursion}
 use Rattle.std.specs.List.Sorted.{IsStrictlySortedBy}
 use Rattle.std.proofs.lemmas.Cmp.{nat_list_cmp_total}
 use Rattle.std.proofs.lemmas.List.{take_more, take_all, append-nil, map-append}
-use Rattle.tree_value.specs.Trees.{path_cmp}
+use Rattle.tree_value.specs.Trees.{path_cmp, path_at, IsFirstOutOfOrder}
 use Rattle.io_traits.specs.Files.{File, Files, get, names, IsInOrder}
 use Rattle.mill_top.specs.Scratch.{file_of}
 
@@ -53,6 +53,22 @@ get_at (file ∷ files) (suc i) d up within =
     let less : path_cmp file.0 (get_or files i d).0 ≡ Less =
     subst (λ n. path_cmp file.0 n ≡ Less) (name_at files i d) (all_at (λ n. path_cmp file.0 n ≡ Less) (names files) i d.0 up.0 (omega (arith, length-names files))) in
     ap (λ b. cond b (Some file.1) (get files (get_or files i d).0)) (greater file.0 (get_or files i d).0 less) ∙ get_at files i d up.1 inside
+
+rising_at : (files : Files) (k : ℕ) → IsInOrder (names files) → suc k < length files → path_cmp (path_at files k) (path_at files (suc k)) ≡ Less
+unfolding IsStrictlySortedBy
+rising_at [] k up within = absurd (omega arith)
+rising_at (file ∷ files) zero up within =
+    let inside : 0 < length files = omega arith in
+    subst (λ n. path_cmp file.0 n ≡ Less) (name_at files zero ([], [])) (all_at (λ n. path_cmp file.0 n ≡ Less) (names files) zero [] up.0 (omega (arith, length-names files)))
+rising_at (file ∷ files) (suc k) up within = rising_at files k up.1 (omega arith)
+
+-- of files in order none is out of order
+pub none_out_of_order : (files : Files) (n : ℕ) → IsInOrder (names files) → IsFirstOutOfOrder files n → ⊥
+none_out_of_order files n up out =
+    let above : 1 < n = out.within.0 in
+    let inside : n ≤ length files = out.within.1 in
+    let next : suc (n - 2) ≡ n - 1 = omega arith in
+    out.here (subst (λ k. path_cmp (path_at files (n - 2)) (path_at files k) ≡ Less) next (rising_at files (n - 2) up (omega arith)))
 
 add_at : (files : Files) (i : ℕ) (d : File) (found : Option (List ℕ)) → IsInOrder (names files) → i < length files → found ≡ get files (get_or files i d).0
     → take i files ++ file_of (get_or files i d).0 found ≡ take (i + 1) files

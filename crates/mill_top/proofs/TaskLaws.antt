@@ -14,7 +14,8 @@ use Rattle.mill_top.specs.declared.task_file.Body.TheVariants.{Constant, Linked}
 use Rattle.mill_top.specs.declared.task_file.TaskFile.{TaskFile}
 use Rattle.mill_top.specs.SmallFiles.{is_class_letter, is_task_letter, is_constant_opcode, constant, small_file, is_small_within, is_small_file, small_free, small_of}
 use Rattle.mill_top.specs.LinkedFiles.{operation_of, linked_file, is_linked_within, is_linked_file, if_linked_file, linked_free, linked_of}
-use Rattle.mill_top.specs.Builds.{small_task, linked_task, task_file_of, class_files}
+use Rattle.class_read.specs.ClassFiles.{class_files}
+use Rattle.mill_top.specs.Builds.{small_task, linked_task, task_file_of}
 use Rattle.mill_top.specs.Graphs.{letters, file_with, task_files, graph_of, build_graph}
 use Rattle.mill_top.proofs.FindLaws.{holds-found, holds-given}
 

@@ -14,12 +14,12 @@ use Rattle.mill_top.specs.declared.outcome.Outcome.{Outcome}
 use Rattle.mill_top.specs.declared.outcome.Outcome.TheVariants.{Returns}
 use Rattle.mill_top.specs.declared.recorded.Record.{Record}
 use Rattle.mill_top.specs.declared.reply.Reply.{Reply}
-use Rattle.mill_top.specs.declared.reply.Reply.TheVariants.{Value, WordsNotBuilt, FileNotBuilt, DuplicateTask, UnknownInput, Cycle, NoTask, StoreFault, WorkspaceFault, Memory}
+use Rattle.mill_top.specs.declared.reply.Reply.TheVariants.{Value, WordsNotBuilt, Build, NoTask, StoreFault, WorkspaceFault, Memory}
 use Rattle.mill_top.specs.declared.takes.Found.{Found}
 use Rattle.mill_top.specs.Words.{asked}
 use Rattle.mill_top.specs.Graphs.{refusal_of_build}
 use Rattle.mill_top.specs.Inputs.{Run, texts, Clean}
-use Rattle.mill_top.specs.Replies.{refusal_by, refusal, reply_by, words_reply, reply_of}
+use Rattle.mill_top.specs.Replies.{refusal_by, refusal, reply_by, IsWordsReply}
 use Rattle.mill_top.specs.Scratch.{scratch, value_of}
 use Rattle.mill_top.specs.Standing.{rows_of, StandsIn}
 use Rattle.mill_top.specs.Takes.{runs_of}
@@ -45,11 +45,16 @@ memory_instead inputs task before now numbers old new reply takes None h = recor
 }
 memory_instead inputs task before now numbers old new reply takes (Some refused) h = record { reply_is = inr refl; nothing_taken = h.nothing_taken; out = h.out }
 
+memory_answer : (inputs : Record) (task : List ℕ) (before now : ℕ) (numbers : Numbers) (old new : Option Files) (reply : Reply) (takes : List (List ℕ × Found))
+    → IsAnswer inputs task before now numbers old new reply takes → IsAnswer inputs task before now numbers old new Memory takes
+memory_answer inputs task before now numbers old new reply takes (inl (fault, unloaded, h)) = inl (fault, unloaded, record { reply_is = inr refl; nothing_taken = h.nothing_taken; out = h.out })
+memory_answer inputs task before now numbers old new reply takes (inr (loaded, h)) = inr (loaded, memory_instead inputs task before now numbers old new reply takes (refusal inputs task) h)
+
 shown_answer : (inputs : Record) (task : List ℕ) (before now : ℕ) (numbers : Numbers) (old new : Option Files) (reply own : Reply) (takes : List (List ℕ × Found))
     → IsUnlessMemory reply own → IsAnswer inputs task before now numbers old new own takes → IsAnswer inputs task before now numbers old new reply takes
 shown_answer inputs task before now numbers old new reply own takes (inl same) h = subst (λ r. IsAnswer inputs task before now numbers old new r takes) (sym same) h
 shown_answer inputs task before now numbers old new reply own takes (inr wanted) h =
-    subst (λ r. IsAnswer inputs task before now numbers old new r takes) (sym wanted) (memory_instead inputs task before now numbers old new own takes (refusal inputs task) h)
+    subst (λ r. IsAnswer inputs task before now numbers old new r takes) (sym wanted) (memory_answer inputs task before now numbers old new own takes h)
 
 pub shown_answer_to : (words : List (List ℕ)) (read : Option Record) (before now : ℕ) (old new : Option Files) (reply own : Reply) (takes : List (List ℕ × Found))
     → IsUnlessMemory reply own → IfSome read (λ inputs. IsAnswerTo words inputs before now old new own takes) → IfSome read (λ inputs. IsAnswerTo words inputs before now old new reply takes)
@@ -61,6 +66,44 @@ shown_answer_to words (Some inputs) before now old new reply own takes is h = re
   opened = h.opened;
   opening = h.opening;
   answer = shown_answer inputs h.task before now h.numbers h.opened new reply own takes is h.answer;
+}
+
+-- ---- an answer over what the opening left, from the count of faults before the opening
+
+still_rose : (before mid now : ℕ) → before ≤ mid → Rose mid now → Rose before now
+still_rose before mid now later rose = omega arith
+
+loaded_before : (inputs : Record) (task : List ℕ) (before mid now : ℕ) (numbers : Numbers) (old new : Option Files) (reply : Reply) (takes : List (List ℕ × Found)) (r : Option Reply) → before ≤ mid
+    → MatchOption r (IsEvaluated inputs task mid now numbers old new reply takes) (λ refused. IsRefused refused old new reply takes)
+    → MatchOption r (IsEvaluated inputs task before now numbers old new reply takes) (λ refused. IsRefused refused old new reply takes)
+loaded_before inputs task before mid now numbers old new reply takes None later h = record {
+  evaluated = h.evaluated;
+  cause = λ fault. still_rose before mid now later (h.cause fault);
+  done = h.done;
+  rest = h.rest;
+  taken = h.taken;
+  value = h.value;
+  left = h.left;
+}
+loaded_before inputs task before mid now numbers old new reply takes (Some refused) later h = h
+
+answer_before : (inputs : Record) (task : List ℕ) (before mid now : ℕ) (numbers : Numbers) (old new : Option Files) (reply : Reply) (takes : List (List ℕ × Found)) → before ≤ mid
+    → IsAnswer inputs task mid now numbers old new reply takes → IsAnswer inputs task before now numbers old new reply takes
+answer_before inputs task before mid now numbers old new reply takes later (inl unloaded) = inl unloaded
+answer_before inputs task before mid now numbers old new reply takes later (inr (loaded, h)) =
+    inr (loaded, loaded_before inputs task before mid now numbers old new reply takes (refusal inputs task) later h)
+
+pub opened_answer : (words : List (List ℕ)) (task : List ℕ) (read : Option Record) (before mid now : ℕ) (numbers : Numbers) (old opened new : Option Files) (reply : Reply) (takes : List (List ℕ × Found))
+    → asked words ≡ Some task → IsOpened old opened numbers → before ≤ mid
+    → IfSome read (λ inputs. IsAnswer inputs task mid now numbers opened new reply takes) → IfSome read (λ inputs. IsAnswerTo words inputs before now old new reply takes)
+opened_answer words task None before mid now numbers old opened new reply takes asks opening later h = tt
+opened_answer words task (Some inputs) before mid now numbers old opened new reply takes asks opening later h = record {
+  task = task;
+  asks = asks;
+  numbers = numbers;
+  opened = opened;
+  opening = opening;
+  answer = answer_before inputs task before mid now numbers opened new reply takes later h;
 }
 
 chained : (reply own expected : Reply) → IsUnlessMemory reply own → IsUnlessMemory own expected → IsUnlessMemory reply expected
@@ -117,10 +160,7 @@ valued_reply task (Some (Returns own log)) value e = let same : own ≡ value = 
 evaluated_reply : (reply scratch_reply : Reply) → IsEvaluation reply → ((value : ℤ) → reply ≡ Value value → scratch_reply ≡ Value value) → (reply ≡ scratch_reply) ⊎ IsUnlessMemory reply StoreFault
 evaluated_reply (Value value) scratch_reply evaluated is = inl (sym (is value refl))
 evaluated_reply WordsNotBuilt scratch_reply evaluated is = inr evaluated
-evaluated_reply (FileNotBuilt path) scratch_reply evaluated is = inr evaluated
-evaluated_reply (DuplicateTask task) scratch_reply evaluated is = inr evaluated
-evaluated_reply (UnknownInput input task) scratch_reply evaluated is = inr evaluated
-evaluated_reply (Cycle task) scratch_reply evaluated is = inr evaluated
+evaluated_reply (Build fault) scratch_reply evaluated is = inr evaluated
 evaluated_reply (NoTask task) scratch_reply evaluated is = inr evaluated
 evaluated_reply StoreFault scratch_reply evaluated is = inr evaluated
 evaluated_reply WorkspaceFault scratch_reply evaluated is = inr evaluated
@@ -160,10 +200,14 @@ reply_by_case files runs lost inputs task before now numbers new reply takes Non
 
 from_scratch : (files : Files) (runs : List Run) (lost : List (List ℕ)) (inputs : Record) (task : List ℕ) (before now : ℕ) (numbers : Numbers) (new : Option Files) (reply : Reply) (takes : List (List ℕ × Found))
     → IsCase files runs lost inputs task → IsAnswer inputs task before now numbers (Some files) new reply takes → IsFromScratch inputs reply
-unfolding reply_of
-from_scratch files runs lost inputs task before now numbers new reply takes case h =
+from_scratch files runs lost inputs task before now numbers new reply takes case (inl (fault, unloaded, h)) =
+    elim h.reply_is [
+      | inl same ↦ inl (subst (λ asks. IsWordsReply inputs asks reply) (sym case.asks) (inl (fault, unloaded, same)))
+      | inr wanted ↦ inr (inr wanted)
+    ]
+from_scratch files runs lost inputs task before now numbers new reply takes case (inr (loaded, h)) =
     elim (reply_by_case files runs lost inputs task before now numbers new reply takes (refusal inputs task) case refl h) [
-      | inl is ↦ inl (is ∙ ap (words_reply inputs) (sym case.asks))
+      | inl is ↦ inl (subst (λ asks. IsWordsReply inputs asks reply) (sym case.asks) (inr (loaded, is)))
       | inr other ↦ inr other
     ]
 

@@ -4,6 +4,7 @@ use Rattle.io_traits.specs.Causes.{Rose}
 use Rattle.io_traits.specs.Files.{Files}
 use Rattle.out_store.specs.Opening.{IsOpened, LeftByOpening}
 use Rattle.out_store.specs.declared.numbers.Numbers.{Numbers}
+use Rattle.mill_top.specs.declared.build_fault.BuildFault.{BuildFault}
 use Rattle.mill_top.specs.declared.recorded.Record.{Record}
 use Rattle.mill_top.specs.declared.reply.Reply.{Reply}
 use Rattle.mill_top.specs.declared.reply.Reply.TheVariants.{Value, WordsNotBuilt, StoreFault, WorkspaceFault, Memory}
@@ -14,7 +15,8 @@ use Rattle.mill_top.specs.Graphs.{plan, task_name}
 use Rattle.mill_top.specs.Inputs.{Run, texts}
 use Rattle.mill_top.specs.Takes.{Take, task_of, seen, given, AreGiven, runs_of}
 use Rattle.mill_top.specs.Leaving.{after_takes, MayLeave}
-use Rattle.mill_top.specs.Replies.{refusal, reply_of}
+use Rattle.mill_top.specs.Loading.{IsLoaded, IsUnloaded}
+use Rattle.mill_top.specs.Replies.{build_reply, refusal, IsReplyOf}
 
 -- the reply is this one, or memory was wanted
 abbrev pub IsUnlessMemory : Reply → Reply → Type 0
@@ -93,10 +95,16 @@ pub record IsEvaluated (inputs : Record) (task : List ℕ) (before now : ℕ) (n
   pub value : (value : ℤ) → reply ≡ Value value → IsValue task old new done rest value
   pub left : MayLeave done old new
 
--- the reply to a command with a record, over an opened store
+-- the reply over class files that are loaded
+abbrev pub IsAnswerOfLoaded : Record → List ℕ → (before now : ℕ) → Numbers → (old new : Option Files) → Reply → List (List ℕ × Found) → Type 0
+IsAnswerOfLoaded inputs task before now numbers old new reply takes =
+    MatchOption (refusal inputs task) (IsEvaluated inputs task before now numbers old new reply takes) (λ refused. IsRefused refused old new reply takes)
+
+-- The reply to a command with a record, over an opened store: its class files aren't loaded, for this first cause, or they are.
 abbrev pub IsAnswer : Record → List ℕ → (before now : ℕ) → Numbers → (old new : Option Files) → Reply → List (List ℕ × Found) → Type 0
 IsAnswer inputs task before now numbers old new reply takes =
-    MatchOption (refusal inputs task) (IsEvaluated inputs task before now numbers old new reply takes) (λ refused. IsRefused refused old new reply takes)
+    ((fault : BuildFault) × IsUnloaded inputs.files fault × IsRefused (build_reply fault) old new reply takes)
+    ⊎ (IsLoaded inputs.files × IsAnswerOfLoaded inputs task before now numbers old new reply takes)
 
 -- The answer to words that ask for a task: the store was opened, and the answer is over what it then held and over the
 -- numbers of the generations that its entries published.
@@ -124,7 +132,7 @@ all_texts inputs runs = flat_map texts (planned_runs inputs (asked inputs.words)
 
 -- the reply from scratch, or the store failed, or memory was wanted
 abbrev pub IsFromScratch : Record → Reply → Type 0
-IsFromScratch inputs reply = (reply ≡ reply_of inputs) ⊎ IsUnlessMemory reply StoreFault
+IsFromScratch inputs reply = IsReplyOf inputs reply ⊎ IsUnlessMemory reply StoreFault
 
 -- the pair that a device keeps is as it was, or its content and count at entry
 abbrev pub IsKept : {T : Type 0} → (before after : T × ℕ) → T → ℕ → Type 0

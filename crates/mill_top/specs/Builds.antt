@@ -1,9 +1,10 @@
 -- The class files of a workspace, and what is read of each.
-use Rattle.std.specs.Prelude.{Bool, false, not, ℕ, List, ◌∷◌, ◌++◌, ◌&&◌, nat_eq, Option, Some, None, codes}
+use Rattle.std.specs.Prelude.{Bool, false, not, ℕ, List, ◌∷◌, ◌++◌, ◌&&◌, Option, Some, None, codes}
 use Rattle.std.specs.Option.{option_map, option_or}
-use Rattle.std.specs.List.{filter, find, starts_with, ends_with}
+use Rattle.std.specs.List.{find}
 use Rattle.std.specs.Str.{bytes_eq}
 use Rattle.io_traits.specs.Files.{File, Files}
+use Rattle.class_read.specs.ClassFiles.{is_class_path}
 use Rattle.mill_top.specs.declared.linked_file.LinkedFile.{LinkedFile}
 use Rattle.mill_top.specs.declared.small_file.SmallFile.{SmallFile}
 use Rattle.mill_top.specs.declared.task_file.Body.TheVariants.{Constant, Linked}
@@ -21,14 +22,6 @@ linked_task file = record { class = file.class; task = file.task; body = Linked 
 -- what the small or linked file of these bytes says
 unfoldable pub task_file_of : List ℕ → Option TaskFile
 task_file_of bytes = option_or (option_map small_task (small_of bytes)) (option_map linked_task (linked_of bytes))
-
--- whether a path is below `classes/` and ends in `.class`
-abbrev pub is_class_path : List ℕ → Bool
-is_class_path path = starts_with nat_eq path (codes "classes/") && ends_with nat_eq path (codes ".class")
-
--- the files at such paths
-abbrev pub class_files : Files → Files
-class_files files = filter (λ file. is_class_path file.0) files
 
 -- the path of the class of this name
 abbrev pub class_path : ℕ → List ℕ

@@ -3,12 +3,13 @@ use Rattle.std.specs.Prelude.{Bool, false, ℕ, zero, suc, List, [], ◌∷◌, 
 use Rattle.std.specs.Option.{option_map, option_map_or, option_or}
 use Rattle.std.specs.List.{filter_map, find, list_any}
 use Rattle.io_traits.specs.Files.{Files}
+use Rattle.class_read.specs.ClassFiles.{class_files}
 use Rattle.mill_top.specs.declared.build_fault.BuildFault.{BuildFault}
 use Rattle.mill_top.specs.declared.build_fault.BuildFault.TheVariants.{NotBuilt, DuplicateTask, UnknownInput, Cycle}
 use Rattle.mill_top.specs.declared.task_file.Body.{Body}
 use Rattle.mill_top.specs.declared.task_file.Body.TheVariants.{Constant, Linked}
 use Rattle.mill_top.specs.declared.task_file.TaskFile.{TaskFile}
-use Rattle.mill_top.specs.Builds.{class_files, not_built, task_file_of}
+use Rattle.mill_top.specs.Builds.{not_built, task_file_of}
 
 -- the names that a task may have
 abbrev pub letters : List ℕ
@@ -72,7 +73,7 @@ leads (suc n) graph task goal = list_any (λ input. (input == goal) || leads n g
 unfoldable pub cycle : List TaskFile → Option ℕ
 cycle graph = option_map (λ file. file.task) (find (λ file. leads (length graph) graph file.task file.task) graph)
 
--- why a build is refused
+-- why a build that is loaded is refused
 abbrev pub refusal_of_graph : List TaskFile → Option BuildFault
 refusal_of_graph graph = option_or (unknown_input graph) (option_map Cycle (cycle graph))
 

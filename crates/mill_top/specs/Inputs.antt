@@ -5,12 +5,12 @@ use Rattle.std.specs.List.{filter_map}
 use Rattle.hex.specs.Hex.{encode_lower}
 use Rattle.sha2.specs.Sha256.{sha256}
 use Rattle.io_traits.specs.Files.{Files}
+use Rattle.class_read.specs.ClassFiles.{class_files}
 use Rattle.tree_value.specs.Nets.{net}
 use Rattle.value_text.specs.Short.{int}
 use Rattle.value_text.specs.Texts.{stored_text}
 use Rattle.mill_top.specs.declared.recorded.Record.{Record}
 use Rattle.mill_top.specs.declared.task_file.TaskFile.{TaskFile}
-use Rattle.mill_top.specs.Builds.{class_files}
 use Rattle.mill_top.specs.Graphs.{task_in, inputs_of, descriptor_of}
 use Rattle.mill_top.specs.Scratch.{scratch, value_of}
 

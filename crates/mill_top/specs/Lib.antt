@@ -5,6 +5,8 @@ pub mod Tables
 pub mod Chains
 pub mod Words
 pub mod Builds
+pub mod BuildFaults
+pub mod Loading
 pub mod Scratch
 pub mod Inputs
 pub mod Takes

@@ -1,18 +1,19 @@
 -- The reply to a command, and what is printed.
-use Rattle.std.specs.Prelude.{◌≡◌, ℕ, ℤ, Bool, true, List, [], ◌∷◌, ◌++◌, flat_map, fold, take, codes, Option, Some, None, ◌⊎◌}
+use Rattle.std.specs.Prelude.{◌≡◌, ℕ, ℤ, Bool, true, if◌then◌else◌, List, [], ◌∷◌, ◌++◌, flat_map, fold, take, codes, Option, Some, None, ◌⊎◌}
 use Rattle.std.specs.BTreeMap.{insert_entry}
 use Rattle.std.specs.Fmt.{signed_decimal}
 use Rattle.io_traits.specs.Streams.{Got}
 use Rattle.tree_value.specs.Trees.{path_cmp}
 use Rattle.mill_top.specs.declared.build_fault.BuildFault.{BuildFault}
-use Rattle.mill_top.specs.declared.build_fault.BuildFault.TheVariants as fault
 use Rattle.mill_top.specs.declared.outcome.Outcome.{Outcome}
 use Rattle.mill_top.specs.declared.outcome.Outcome.TheVariants.{Returns}
 use Rattle.mill_top.specs.declared.recorded.Record.{Record}
 use Rattle.mill_top.specs.declared.reply.Reply.{Reply}
-use Rattle.mill_top.specs.declared.reply.Reply.TheVariants.{Value, WordsNotBuilt, FileNotBuilt, DuplicateTask, UnknownInput, Cycle, NoTask, StoreFault, WorkspaceFault, Memory}
+use Rattle.mill_top.specs.declared.reply.Reply.TheVariants.{Value, WordsNotBuilt, Build, NoTask, StoreFault, WorkspaceFault, Memory}
 use Rattle.mill_top.specs.declared.takes.Found.{Found}
 use Rattle.mill_top.specs.declared.takes.Found.TheVariants.{Missing, Other, Same}
+use Rattle.mill_top.specs.BuildFaults.{wants_memory, build_line}
+use Rattle.mill_top.specs.Loading.{IsLoaded, IsUnloaded}
 use Rattle.mill_top.specs.Words.{asked}
 use Rattle.mill_top.specs.Graphs.{refusal_of_build}
 use Rattle.mill_top.specs.Scratch.{scratch}
@@ -20,10 +21,7 @@ use Rattle.mill_top.specs.Scratch.{scratch}
 abbrev pub status : Reply → ℕ
 status (Value value) = 0
 status WordsNotBuilt = 2
-status (FileNotBuilt path) = 3
-status (DuplicateTask task) = 3
-status (UnknownInput input task) = 3
-status (Cycle task) = 3
+status (Build fault) = 3
 status (NoTask task) = 2
 status StoreFault = 4
 status WorkspaceFault = 5
@@ -32,10 +30,7 @@ status Memory = 6
 abbrev pub line : Reply → List ℕ
 line (Value value) = signed_decimal value
 line WordsNotBuilt = codes "not built: words"
-line (FileNotBuilt path) = codes "not built: " ++ path
-line (DuplicateTask task) = codes "build: duplicate task " ++ task ∷ []
-line (UnknownInput input task) = codes "build: unknown input " ++ input ∷ (codes " of " ++ task ∷ [])
-line (Cycle task) = codes "build: cycle through " ++ task ∷ []
+line (Build fault) = build_line fault
 line (NoTask task) = codes "no task: " ++ task
 line StoreFault = codes "store fault"
 line WorkspaceFault = codes "workspace fault"
@@ -65,13 +60,9 @@ printed explains takes reply = before_line explains takes reply ++ line reply ++
 
 -- the reply where a build is refused
 abbrev pub build_reply : BuildFault → Reply
-build_reply (fault.NotBuilt path) = FileNotBuilt path
-build_reply (fault.DuplicateTask task) = DuplicateTask task
-build_reply (fault.UnknownInput input task) = UnknownInput input task
-build_reply (fault.Cycle task) = Cycle task
-build_reply fault.Memory = Memory
+build_reply fault = if wants_memory fault then Memory else Build fault
 
--- why a record is refused: its build is, or else it has no such task
+-- why a record whose build is loaded is refused: its build is, or else it has no such task
 abbrev pub refusal_by : List ℕ → Option BuildFault → Option Outcome → Option Reply
 refusal_by task (Some refused) outcome = Some (build_reply refused)
 refusal_by task None None = Some (NoTask task)
@@ -85,13 +76,19 @@ reply_by task (Some refused) outcome = build_reply refused
 reply_by task None None = NoTask task
 reply_by task None (Some (Returns value log)) = Value value
 
-abbrev pub words_reply : Record → Option (List ℕ) → Reply
-words_reply inputs None = WordsNotBuilt
-words_reply inputs (Some task) = reply_by task (refusal_of_build inputs.files) (scratch inputs task)
+-- The class files aren't loaded, and the reply tells the first cause; or they are, and it is that of their tasks.
+abbrev pub IsTaskReply : Record → List ℕ → Reply → Type 0
+IsTaskReply inputs task reply =
+    ((fault : BuildFault) × IsUnloaded inputs.files fault × (reply ≡ build_reply fault))
+    ⊎ (IsLoaded inputs.files × (reply ≡ reply_by task (refusal_of_build inputs.files) (scratch inputs task)))
+
+abbrev pub IsWordsReply : Record → Option (List ℕ) → Reply → Type 0
+IsWordsReply inputs None reply = reply ≡ WordsNotBuilt
+IsWordsReply inputs (Some task) reply = IsTaskReply inputs task reply
 
 -- the reply that evaluation from scratch over a record gives to its words
-unfoldable pub reply_of : Record → Reply
-reply_of inputs = words_reply inputs (asked inputs.words)
+abbrev pub IsReplyOf : Record → Reply → Type 0
+IsReplyOf inputs reply = IsWordsReply inputs (asked inputs.words) reply
 
 -- The sink that had `before` has all of the text behind it, and the status is that of the reply; or it has a front part
 -- of the text, and the status is 7.

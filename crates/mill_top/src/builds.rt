@@ -3,19 +3,14 @@
 ghost use Rattle.std.specs.Prelude.{◌≡◌, ◌&&◌, not, IfOk};
 ghost use Rattle.std.specs.Option.{option_copied};
 ghost use Rattle.std.specs.Str.{bytes_eq};
-ghost use Rattle.mill_top.specs.Builds.{task_file_of, is_class_path, class_path, is_in_place, first_out_of_place};
+ghost use Rattle.class_read.specs.ClassFiles.{is_class_path};
+ghost use Rattle.mill_top.specs.Builds.{task_file_of, class_path, is_in_place, first_out_of_place};
 ghost use Rattle.mill_top.specs.Graphs.{task_files};
 
 use crate::task_file::TaskFile;
+use class_read::is_class_path;
 use std::alloc::{AllocError, Global};
 use tree_value::{Bytes, Path};
-
-/// Whether the file at the path is a class file of the build.
-pub fn is_class_path(path: &[u8]) -> bool
-    ensures { result ≡ is_class_path path.now }
-{
-    path.starts_with(b"classes/") && path.ends_with(b".class")
-}
 
 fn is_class_path_of(path: &[u8], class: u8) -> bool
     ensures { result ≡ bytes_eq path.now (class_path class) }

@@ -8,7 +8,7 @@ ghost use Rattle.mill_top.specs.Graphs.{task_in, task_name, plan};
 ghost use Rattle.mill_top.specs.Inputs.{Run, Clean, input_hash, IsDigested};
 ghost use Rattle.mill_top.specs.Replies.{refusal};
 ghost use Rattle.mill_top.specs.Walks.{HasNext, IsReady, IsFileStep, IsWalked, IsStopped};
-ghost use Rattle.mill_top.specs.Answers.{IsAnswer, IsEvaluation, all_texts};
+ghost use Rattle.mill_top.specs.Answers.{IsAnswerOfLoaded, IsEvaluation, all_texts};
 ghost use Rattle.mill_top.specs.Standing.{StandsIn};
 ghost use Rattle.mill_top.specs.Takes.{runs_of};
 ghost use Rattle.mill_top.specs.Words.{asked};
@@ -149,7 +149,7 @@ pub fn evaluate<S: Store>(
     requires accepted { refusal inputs.now task.now ≡ None }
     requires is_plan { planned.now ≡ plan inputs.now.files task.now }
     requires ready { IsReady out.old.numbers (S.content out.old.store) }
-    ensures answer { IsAnswer inputs.now task.now (S.faults out.old.store) (S.faults out.new.store) out.old.numbers (S.content out.old.store) (S.content out.new.store) result.reply result.takes }
+    ensures answer { IsAnswerOfLoaded inputs.now task.now (S.faults out.old.store) (S.faults out.new.store) out.old.numbers (S.content out.old.store) (S.content out.new.store) result.reply result.takes }
     ensures stands { (runs : List Run) (lost : List (List ℕ)) → StandsIn (S.content out.old.store) runs lost → Clean (all_texts inputs.now runs) → StandsIn (S.content out.new.store) (runs ++ runs_of inputs.now result.takes) lost }
     ensures kept { S.kept out.new.store ≡ S.kept out.old.store }
 {

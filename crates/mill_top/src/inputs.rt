@@ -6,9 +6,9 @@ ghost use Rattle.tree_value.specs.Nets.{net};
 ghost use Rattle.mill_top.specs.Graphs.{task_in, task_name};
 ghost use Rattle.mill_top.specs.Inputs.{nets, whole_row, method_of, method_text, value_text, value_fields, input_text, input_hash, IsDigested};
 
-use crate::builds::is_class_path;
 use crate::recorded::Record;
 use crate::task_file::TaskFile;
+use class_read::is_class_path;
 use sha2::{Digest as _, Sha256};
 use std::alloc::{AllocError, Global};
 use tree_value::{Digest, Value};

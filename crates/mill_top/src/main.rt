@@ -1,17 +1,19 @@
 //! The program `mill`: it evaluates a build that is given as Java class files, keeps the results in `out` and reuses
 //! them. The top call is `mill_one` of the module `top`, over the traits of `io_traits`; this file makes the devices of
-//! `io_real` for it. It stands on `tree_value`, `value_text`, `out_entry`, `out_store`, `io_traits` and `io_real`, and on
-//! `sha2` and `hex`.
+//! `io_real` for it. It stands on `class_read`, which loads builds, with the crates below it, on `tree_value`, `value_text`,
+//! `line_text`, `out_entry`, `out_store`, `io_traits` and `io_real`, and on `sha2` and `hex`.
 #![tactic(auto)]
 
 mod build_fault;
 mod builds;
 mod evaluating;
+mod fault_lines;
 mod graph;
 #[cfg(test)]
 mod graph_tests;
 mod inputs;
 mod linked_file;
+mod loading;
 mod operation;
 mod outcome;
 mod printing;

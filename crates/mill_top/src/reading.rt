@@ -2,12 +2,12 @@
 
 ghost use Rattle.std.specs.Prelude.{◌≡◌, ◌++◌, List, ℕ, Option, IfOk, IfSome, OnOk};
 ghost use Rattle.io_traits.specs.Causes.{HasCause};
-ghost use Rattle.io_traits.specs.Files.{get};
+ghost use Rattle.io_traits.specs.Files.{get, names, IsInOrder};
 ghost use Rattle.mill_top.specs.Scratch.{file_of};
 
-use io_traits::{Contents, IoFault, Workspace};
+use io_traits::{IoFault, Workspace};
 use std::alloc::Global;
-use tree_value::{Bytes, Path};
+use tree_value::{Bytes, Path, Tree, TreeFault};
 
 // Adds the file of this name, if it is still there.
 fn add_file<W: Workspace>(
@@ -29,8 +29,20 @@ fn add_file<W: Workspace>(
     }
 }
 
+// The tree of files in order.
+fn tree_of(alloc: Global, files: Vec<(Path, Bytes)>) -> Tree
+    requires { IsInOrder (names files.items) }
+    ensures { result ≡ files.items }
+{
+    match Tree::of(alloc, files) {
+        Ok(tree) => tree,
+        Err(TreeFault::OutOfOrder(_)) => unreachable!(),
+        Err(TreeFault::Memory) => unreachable!(),
+    }
+}
+
 /// All files of the workspace. One that is listed and gone when it is read is left out.
-pub fn read_files<W: Workspace>(alloc: Global, workspace: &mut W) -> Result<Contents, IoFault>
+pub fn read_files<W: Workspace>(alloc: Global, workspace: &mut W) -> Result<Tree, IoFault>
     ensures files { IfOk result (λ files. IfSome (W.content workspace.old) (λ told. files ≡ told)) }
     ensures content { W.content workspace.new ≡ W.content workspace.old }
     ensures cause { HasCause (W.faults workspace.old) (W.faults workspace.new) result }
@@ -41,8 +53,5 @@ pub fn read_files<W: Workspace>(alloc: Global, workspace: &mut W) -> Result<Cont
     for name in &names {
         add_file(workspace, name, &mut files)?;
     }
-    match Contents::of(files) {
-        Some(files) => Ok(files),
-        None => unreachable!(),
-    }
+    Ok(tree_of(alloc, files))
 }

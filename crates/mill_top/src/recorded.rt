@@ -2,15 +2,14 @@
 
 ghost use Rattle.std.specs.Prelude.{◌≡◌, IfOk};
 
-use io_traits::Contents;
 use std::alloc::Global;
 use std::marker::Model;
-use tree_value::{CopyFault, Text};
+use tree_value::{CopyFault, Text, Tree};
 
 /// The files, the environment, the moment in milliseconds, and the words of a command.
 #[derive(Debug, Drop)]
 pub struct Record {
-    pub files: Contents,
+    pub files: Tree,
     pub environment: Variables,
     pub moment: u64,
     pub words: Words,

@@ -1,10 +1,11 @@
 //! The reply to a command.
 
-ghost use Rattle.std.specs.Prelude.{◌≡◌, ◌++◌, ◌∷◌, [], IfOk};
+ghost use Rattle.std.specs.Prelude.{◌≡◌, ◌++◌, IfOk};
 ghost use Rattle.mill_top.specs.Replies.{status, line};
 
+use crate::build_fault::BuildFault;
 use std::alloc::{AllocError, Global};
-use tree_value::{Path, Text};
+use tree_value::Text;
 
 /// What a command is answered.
 #[derive(Debug, Drop)]
@@ -13,14 +14,8 @@ pub enum Reply {
     Value(i32),
     /// The words aren't those that are read so far.
     WordsNotBuilt,
-    /// The class file at the path is none that is read so far.
-    FileNotBuilt(Path),
-    /// Two class files have the task.
-    DuplicateTask(u8),
-    /// No class file has the input of the task.
-    UnknownInput { input: u8, task: u8 },
-    /// Inputs lead from the task back to it.
-    Cycle(u8),
+    /// The build is refused.
+    Build(BuildFault),
     /// The build has no such task.
     NoTask(Text),
     /// The folder of results failed.
@@ -39,15 +34,6 @@ fn joined(alloc: Global, front: &[u8], back: &[u8]) -> Result<Vec<u8>, AllocErro
     Ok(text)
 }
 
-fn unknown_input(alloc: Global, input: u8, task: u8) -> Result<Vec<u8>, AllocError>
-    ensures { IfOk result (λ text. text.items ≡ line (Reply.UnknownInput input task)) }
-{
-    let mut text = joined(alloc, b"build: unknown input ", &[input])?;
-    text.extend_from_slice(b" of ")?;
-    text.extend_from_slice(&[task])?;
-    Ok(text)
-}
-
 impl Reply {
     /// The status that the process ends with.
     pub fn status(&self) -> u8
@@ -56,10 +42,7 @@ impl Reply {
         match self {
             Reply::Value(_) => 0,
             Reply::WordsNotBuilt | Reply::NoTask(_) => 2,
-            Reply::FileNotBuilt(_)
-            | Reply::DuplicateTask(_)
-            | Reply::UnknownInput { .. }
-            | Reply::Cycle(_) => 3,
+            Reply::Build(_) => 3,
             Reply::StoreFault => 4,
             Reply::WorkspaceFault => 5,
             Reply::Memory => 6,
@@ -73,10 +56,7 @@ impl Reply {
         match self {
             Reply::Value(value) => joined(alloc, b"", value.to_string(alloc)?.as_bytes()),
             Reply::WordsNotBuilt => joined(alloc, b"not built: words", b""),
-            Reply::FileNotBuilt(path) => joined(alloc, b"not built: ", path.as_slice()),
-            Reply::DuplicateTask(task) => joined(alloc, b"build: duplicate task ", &[*task]),
-            Reply::UnknownInput { input, task } => unknown_input(alloc, *input, *task),
-            Reply::Cycle(task) => joined(alloc, b"build: cycle through ", &[*task]),
+            Reply::Build(fault) => fault.line(alloc),
             Reply::NoTask(task) => joined(alloc, b"no task: ", task.as_slice()),
             Reply::StoreFault => joined(alloc, b"store fault", b""),
             Reply::WorkspaceFault => joined(alloc, b"workspace fault", b""),

@@ -10,11 +10,12 @@ ghost use Rattle.mill_top.specs.Replies.{status, build_reply, refusal, printed, 
 ghost use Rattle.mill_top.specs.Standing.{StandsIn};
 ghost use Rattle.mill_top.specs.Takes.{runs_of};
 ghost use Rattle.mill_top.specs.Walks.{IsReady};
-ghost use Rattle.mill_top.specs.Answers.{IsUnlessMemory, IsRecordOf, IsUnfound, IsUnread, IsAnswer, IsAnswerTo, IsFromScratch, runs_in, all_texts, IsKept};
+ghost use Rattle.mill_top.specs.Answers.{IsUnlessMemory, IsRecordOf, IsUnfound, IsUnread, IsAnswer, IsAnswerOfLoaded, IsAnswerTo, IsFromScratch, runs_in, all_texts, IsKept};
 
 use crate::build_fault::BuildFault;
 use crate::evaluating::{Taken, evaluate, store_reply};
 use crate::graph::{Graph, graph_of};
+use crate::loading::load;
 use crate::printing::printed;
 use crate::reading::read_files;
 use crate::recorded::{Record, Variables, Words};
@@ -53,12 +54,10 @@ struct Answer<S> {
 fn build_reply(fault: BuildFault) -> Reply
     ensures { result ≡ build_reply fault }
 {
-    match fault {
-        BuildFault::NotBuilt(path) => Reply::FileNotBuilt(path),
-        BuildFault::DuplicateTask(task) => Reply::DuplicateTask(task),
-        BuildFault::UnknownInput { input, task } => Reply::UnknownInput { input, task },
-        BuildFault::Cycle(task) => Reply::Cycle(task),
-        BuildFault::Memory => Reply::Memory,
+    if fault.wants_memory() {
+        Reply::Memory
+    } else {
+        Reply::Build(fault)
     }
 }
 
@@ -95,6 +94,20 @@ fn choose(alloc: Global, inputs: &Record, task: &Text) -> Result<Vec<TaskFile>, 
     }
 }
 
+// The tasks that are taken over class files that are loaded.
+fn taken_of_loaded<S: Store>(alloc: Global, inputs: &Record, task: &Text, out: &mut Out<S>) -> Taken
+    requires asks { asked inputs.now.words ≡ Some task.now }
+    requires ready { IsReady out.old.numbers (S.content out.old.store) }
+    ensures answer { IsAnswerOfLoaded inputs.now task.now (S.faults out.old.store) (S.faults out.new.store) out.old.numbers (S.content out.old.store) (S.content out.new.store) result.reply result.takes }
+    ensures stands { (runs : List Run) (lost : List (List ℕ)) → StandsIn (S.content out.old.store) runs lost → Clean (all_texts inputs.now runs) → StandsIn (S.content out.new.store) (runs ++ runs_of inputs.now result.takes) lost }
+    ensures kept { S.kept out.new.store ≡ S.kept out.old.store }
+{
+    match choose(alloc, inputs, task) {
+        Ok(plan) => evaluate(alloc, inputs, task, plan.as_slice(), out),
+        Err(reply) => Taken::none(alloc, reply),
+    }
+}
+
 fn taken<S: Store>(alloc: Global, inputs: &Record, task: &Text, out: &mut Out<S>) -> Taken
     requires asks { asked inputs.now.words ≡ Some task.now }
     requires ready { IsReady out.old.numbers (S.content out.old.store) }
@@ -102,9 +115,9 @@ fn taken<S: Store>(alloc: Global, inputs: &Record, task: &Text, out: &mut Out<S>
     ensures stands { (runs : List Run) (lost : List (List ℕ)) → StandsIn (S.content out.old.store) runs lost → Clean (all_texts inputs.now runs) → StandsIn (S.content out.new.store) (runs ++ runs_of inputs.now result.takes) lost }
     ensures kept { S.kept out.new.store ≡ S.kept out.old.store }
 {
-    match choose(alloc, inputs, task) {
-        Ok(plan) => evaluate(alloc, inputs, task, plan.as_slice(), out),
-        Err(reply) => Taken::none(alloc, reply),
+    match load(alloc, &inputs.files) {
+        Ok(_program) => taken_of_loaded(alloc, inputs, task, out),
+        Err(fault) => Taken::none(alloc, build_reply(fault)),
     }
 }
 
@@ -261,13 +274,13 @@ pub fn refuse<K: Sink + Drop>(alloc: Global, mut sink: K, reply: Reply) -> u8
 ///
 /// The words are `-j 1 show TASK`, or `-j 1 --explain show TASK`, which says before the value which tasks ran, and why.
 /// The store is opened once the words are accepted: it loses the generations that no entry which reads publishes. The
-/// workspace's class files are small and linked files, each in its place. The tasks of the plan are taken in order, each
+/// workspace's class files are loaded, and are small and linked files, each in its place. The tasks of the plan are taken in order, each
 /// once: a task is reused where its entry reads and has its input hash; otherwise it is run, and its log and then its
 /// entry are put. The reply goes to the sink.
 ///
 /// The replies and their statuses, in the order in which they are decided: words of another form (2); the store failed
-/// as it was opened (4); the workspace failed (5); a class file that is none that is read so far, a task that two files
-/// have, an unknown input, a cycle (3); no such task (2); the store failed (4); the value (0). Memory that was wanted
+/// as it was opened (4); the workspace failed (5); a class file that is too long, or what loading refuses, a class file
+/// that is none that is built so far, a task that two files have, an unknown input, a cycle (3); no such task (2); the store failed (4); the value (0). Memory that was wanted
 /// has 6. Where the sink fails the status is 7.
 pub fn mill_one<S: Store, W: Workspace, K: Sink>(
     alloc: Global,

@@ -2,7 +2,7 @@ use Rattle.std.proofs.Common.{[], Some, Err, IfSome, FitsSigned, sym, ap, subst}
 use Rattle.std.specs.Int.{w32}
 use Rattle.std.proofs.lemmas.Int.{to_z-of_z}
 use Rattle.mill_top.specs.declared.reply.Reply.TheVariants.{Value}
-use Rattle.mill_top.specs.Answers.{IsAnswer}
+use Rattle.mill_top.specs.Answers.{IsAnswerOfLoaded}
 use Rattle.mill_top.specs.Chains.{IsChain}
 use Rattle.mill_top.specs.Walks.{IsWalked}
 use Rattle.mill_top.proofs.AnswerLaws.{evaluated_answer, walked_evaluated, stopped_evaluated, walked_some, accepted_file}
@@ -37,7 +37,7 @@ returns-in-Ok-Some-clause-answer g c =
     let fits : FitsSigned w32 c.in-Ok-Some.value = subst (λ value. IfSome value (FitsSigned w32)) c.in-Ok-Some.field-0-is c.in-Ok-Some.ensures.fits in
     let walked : IsWalked c.args.inputs.now c.args.planned.now numbers c.take_all.new.out.numbers old new takes [] (Some c.in-Ok-Some.value) =
     subst (λ value. IsWalked c.args.inputs.now c.args.planned.now numbers c.take_all.new.out.numbers old new takes [] value) c.in-Ok-Some.field-0-is c.in-Ok-Some.ensures.ok in
-    subst (λ value. IsAnswer c.args.inputs.now c.args.task.now before now numbers old new (Value value) takes) (sym (to_z-of_z w32 c.in-Ok-Some.value fits))
+    subst (λ value. IsAnswerOfLoaded c.args.inputs.now c.args.task.now before now numbers old new (Value value) takes) (sym (to_z-of_z w32 c.in-Ok-Some.value fits))
     (evaluated_answer c.args.inputs.now c.args.task.now before now numbers old new (Value c.in-Ok-Some.value) takes c.requires.accepted
     (walked_evaluated c.args.inputs.now c.args.task.now own.1.0 c.args.planned.now before now numbers c.take_all.new.out.numbers old new takes c.in-Ok-Some.value c.requires.is_plan own.0 own.1.1 walked))
 

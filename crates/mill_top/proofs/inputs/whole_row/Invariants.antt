@@ -1,5 +1,5 @@
 use Rattle.std.proofs.Common.{◌≡◌, ◌++◌, drop}
-use Rattle.mill_top.specs.Builds.{class_files}
+use Rattle.class_read.specs.ClassFiles.{class_files}
 use Rattle.mill_top.specs.Inputs.{whole_row, nets, paths_and_bytes}
 use Rattle.mill_top.proofs.inputs.whole_row.Given as goal
 

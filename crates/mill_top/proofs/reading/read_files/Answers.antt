@@ -28,5 +28,5 @@ pub returns-clause-files : goal.returns-clause-files
 returns-clause-files g c =
     let all : IfSome (g.W.Workspace.content c.list.new.self) (λ files. c.deref-name-items.result.now ≡ names files) =
     rw (c.in_ok-names.ensures.content, c.deref-name-items.ensures.value) c.in_ok-names.ensures.all in
-    subst (λ o. IfSome o (λ told. c.in-Some.files ≡ told)) c.in_ok-names.ensures.content
-    (rw c.in-Some.ensures.files (told_all _ c.deref-name-items.result.now c.loop-name.files.items c.loop-name.name-index c.loop-name-test.false all c.loop-name.invariant.files))
+    subst (λ o. IfSome o (λ told. c.tree_of.result ≡ told)) c.in_ok-names.ensures.content
+    (rw c.tree_of.ensures (told_all _ c.deref-name-items.result.now c.loop-name.files.items c.loop-name.name-index c.loop-name-test.false all c.loop-name.invariant.files))

@@ -1,0 +1,18 @@
+use Rattle.std.proofs.Common.{[], ◌++◌, sym, subst}
+use Rattle.std.proofs.lemmas.List.{append-nil}
+use Rattle.mill_top.specs.Answers.{IsAnswerOfLoaded}
+use Rattle.mill_top.specs.Standing.{StandsIn}
+use Rattle.mill_top.specs.Takes.{runs_of}
+use Rattle.mill_top.proofs.AnswerLaws.{nothing_answer}
+use Rattle.mill_top.proofs.top.taken_of_loaded.Goals as goal
+
+pub returns-in-Err-clause-answer : goal.returns-in-Err-clause-answer
+returns-in-Err-clause-answer g c =
+    subst (λ taken. IsAnswerOfLoaded c.args.inputs.now c.args.task.now (g.S.Store.faults c.args.out.now.store) (g.S.Store.faults c.args.out.now.store)
+    c.args.out.now.numbers (g.S.Store.content c.args.out.now.store) (g.S.Store.content c.args.out.now.store) taken.reply taken.takes) (sym c.none.ensures)
+    (nothing_answer c.args.inputs.now c.args.task.now (g.S.Store.faults c.args.out.now.store) (g.S.Store.faults c.args.out.now.store) c.args.out.now.numbers (g.S.Store.content c.args.out.now.store) c.in-Err.reply c.in-Err.ensures.err)
+
+pub returns-in-Err-clause-stands : goal.returns-in-Err-clause-stands
+returns-in-Err-clause-stands g c = λ runs lost stands clean.
+    subst (λ taken. StandsIn (g.S.Store.content c.args.out.now.store) (runs ++ runs_of c.args.inputs.now taken.takes) lost) (sym c.none.ensures)
+    (subst (λ rs. StandsIn (g.S.Store.content c.args.out.now.store) rs lost) (sym (append-nil runs)) stands)
