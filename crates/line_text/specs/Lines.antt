@@ -1,5 +1,5 @@
--- Texts in printed lines. A character below U+0020, U+007F and a backslash are escaped, so that a line stays one line
--- and can be read back; any other stands in UTF-8 (RFC 3629).
+-- Texts in printed lines. A character below U+0020, U+007F and a backslash are escaped, so that a line stays one line;
+-- any other stands in UTF-8 (RFC 3629).
 use Rattle.std.specs.Prelude.{◌≢◌, ℕ, ◌<◌, ◌≤◌, ◌==◌, ◌||◌, nat_lt, List, [], ◌∷◌, length, flat_map, codes, All, Option, Some, None, unwrap_or, if◌then◌else◌, encode_utf8, IsUtf8}
 use Rattle.std.specs.Char.Escape.{backslash, hex_digit_at}
 use Rattle.std.specs.Char.Utf16.{utf16_chars}
