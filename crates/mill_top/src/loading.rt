@@ -1,9 +1,10 @@
 //! Loading the class files of a build.
 
-ghost use Rattle.std.specs.Prelude.{◌≡◌, ◌⊎◌, IfErr, OnOk};
+ghost use Rattle.std.specs.Prelude.{◌≡◌, ◌⊎◌, true, IfErr, OnOk};
 ghost use Rattle.std.specs.Option.{option_copied, option_map};
 ghost use Rattle.std.specs.List.{find};
 ghost use Rattle.mill_top.specs.declared.build_fault.BuildFault.{BuildFault};
+ghost use Rattle.mill_top.specs.BuildFaults.{wants_memory};
 ghost use Rattle.mill_top.specs.Loading.{is_too_long, IsLoaded, IsUnloaded};
 
 use crate::build_fault::BuildFault;
@@ -36,9 +37,12 @@ fn too_long(path: &Path) -> BuildFault
 
 /// The program of the class files, or why they are none: one that is too long to be read, the first in their order, or
 /// else the refusal of loading.
+#[tactic(auto, using(crate::proofs::LoadingLaws::apart))]
 pub fn load(alloc: Global, files: &Tree) -> Result<ProgramOk, BuildFault>
     ensures ok { OnOk result (IsLoaded files.now) }
     ensures err { IfErr result (λ fault. (own : BuildFault) × IsUnloaded files.now own × ((fault ≡ own) ⊎ (fault ≡ BuildFault.Memory))) }
+    // What is loaded is refused for nothing but want of memory.
+    ensures apart { IsLoaded files.now → (own : BuildFault) → IsUnloaded files.now own → wants_memory own ≡ true }
 {
     if let Some(file) = first_too_long(files.as_slice()) {
         return Err(too_long(&file.0));

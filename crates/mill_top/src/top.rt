@@ -274,14 +274,14 @@ pub fn refuse<K: Sink + Drop>(alloc: Global, mut sink: K, reply: Reply) -> u8
 ///
 /// The words are `-j 1 show TASK`, or `-j 1 --explain show TASK`, which says before the value which tasks ran, and why.
 /// The store is opened once the words are accepted: it loses the generations that no entry which reads publishes. The
-/// workspace's class files are loaded, and are small and linked files, each in its place. The tasks of the plan are taken in order, each
-/// once: a task is reused where its entry reads and has its input hash; otherwise it is run, and its log and then its
-/// entry are put. The reply goes to the sink.
+/// workspace's class files are loaded: they are a verified program. They are small and linked files, each in its place.
+/// The tasks of the plan are taken in order, each once: a task is reused where its entry reads and has its input hash;
+/// otherwise it is run, and its log and then its entry are put. The reply goes to the sink.
 ///
 /// The replies and their statuses, in the order in which they are decided: words of another form (2); the store failed
-/// as it was opened (4); the workspace failed (5); a class file that is too long, or what loading refuses, a class file
-/// that is none that is built so far, a task that two files have, an unknown input, a cycle (3); no such task (2); the store failed (4); the value (0). Memory that was wanted
-/// has 6. Where the sink fails the status is 7.
+/// as it was opened (4); the workspace failed (5); a class file that is too long, what loading refuses, a class file
+/// that is none that is built so far, a task that two files have, an unknown input, a cycle (3); no such task (2); the
+/// store failed (4); the value (0). Memory that was wanted has 6. Where the sink fails the status is 7.
 pub fn mill_one<S: Store, W: Workspace, K: Sink>(
     alloc: Global,
     words: &[Text],
