@@ -20,6 +20,8 @@ mod printing;
 mod program;
 mod reading;
 mod recorded;
+#[cfg(test)]
+mod refused_tests;
 mod replay;
 mod replay_steps;
 #[cfg(test)]

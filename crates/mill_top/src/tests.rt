@@ -26,7 +26,7 @@ const NEVER: u64 = 0;
 #[derive(Clone, Copy)]
 struct Case {
     task: &'static str,
-    // The opcode of the class file's constant; any other than 2 to 8 makes it no class file.
+    // The opcode of the class file's constant; any other than 2 to 8 makes it none that is built.
     opcode: u8,
     // What stands under the entry's name, if it isn't empty.
     kept: &'static str,
@@ -206,7 +206,7 @@ fn refuses_words_builds_and_tasks(rt: HostRuntime) -> Result<(), Fail> {
                     ..SHOW_A
                 },
                 3,
-                "not built: classes/A.class\n",
+                "build: A.a()I: bad frame at 0\n",
                 "",
             ),
             (
