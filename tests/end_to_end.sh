@@ -42,6 +42,29 @@ set_byte() {
     printf "\\$3" | dd of="$1" bs=1 seek="$2" conv=notrunc 2>/dev/null
 }
 
+# The class of a small class file has another name.
+rename_class() {
+    {
+        head -c 12 "$1"
+        printf "\\$(printf '%03o' "${#2}")%s" "$2"
+        tail -c +15 "$1"
+    } >"$work/changed"
+    mv "$work/changed" "$1"
+}
+
+# The example with bytes set by their offsets and octal numbers, behind a name and the line that it is refused with.
+broken() {
+    fresh first
+    name=$1
+    line=$2
+    shift 2
+    while [ $# -gt 0 ]; do
+        set_byte classes/A.class "$1" "$2"
+        shift 2
+    done
+    expect "$name" 3 "$line" -j 1 show a
+}
+
 # The length of the content of a file, a colon, the content and a comma.
 net_file() {
     printf '%d:' "$(wc -c <"$1")"
@@ -142,9 +165,9 @@ fresh first
 expect "other words" 2 "not built: words" -j 2 show a
 expect "no words" 2 "not built: words"
 expect "another task" 2 "no task: b" -j 1 show b
-set_byte classes/A.class 139 011
-expect "another constant" 3 "not built: classes/A.class" -j 1 show a
-set_byte classes/A.class 139 010
+set_byte classes/A.class 5 001
+expect "another minor version" 3 "not built: classes/A.class" -j 1 show a
+set_byte classes/A.class 5 000
 mv classes/A.class classes/B.class
 expect "a class in another's place" 3 "not built: classes/B.class" -j 1 show a
 cp "$top/examples/first/classes/A.class" classes
@@ -165,6 +188,81 @@ expect_entry "an unpublished generation" a 1 "$hash" 5
 printf 'out/%s\n' a.dest/g01/x a.dest/readme a.json a.log other >"$work/wanted_files"
 find out -type f | sort >"$work/files"
 same "an unpublished generation: files of out" "$work/wanted_files" "$work/files"
+
+broken "a float constant" "build: A.a()I: float used" 139 013
+broken "an opcode that is none" "build: A.a()I: bad code at 0" 139 312
+broken "a jump that is cut short" "build: A.a()I: bad code at 0" 139 247
+broken "an empty stack" "build: A.a()I: bad frame at 0" 139 127
+broken "a return of nothing" "build: A.a()I: bad frame at 0" 139 254
+broken "a long returned as an int" "build: A.a()I: bad frame at 0" 139 011
+broken "code without an end" "build: A.a()I: bad frame at 1" 140 000
+broken "a float result" "build: A.f()F: float used" 42 146 48 106
+broken "no class file" "build: classes/A.class: bad magic" 0 000
+broken "an old class file" "build: classes/A.class: bad major 51" 7 063
+broken "a constant too many" "build: classes/A.class: bad tag 0 at 105" 9 014
+broken "a text that is no UTF-8" "build: classes/A.class: bad text at 10" 13 200
+broken "a super class that is a text" "build: classes/A.class: bad index at 109" 110 005
+broken "code of no length" "build: classes/A.class: bad attribute at 125" 138 000
+broken "code twice" "build: classes/A.class: second attribute at 145" 146 007
+broken "a method without code" "build: classes/A.class: code missing at 117" 126 005
+broken "a super class that isn't there" "build: missing super java/lang/Objecx" 35 170
+broken "a class above itself" "build: cyclic super A" 110 002
+
+fresh first
+{ head -c 139 classes/A.class; printf '\247\177\377'; tail -c +142 classes/A.class; } >"$work/changed"
+mv "$work/changed" classes/A.class
+set_byte classes/A.class 130 017
+set_byte classes/A.class 138 003
+expect "a jump out of the code" 3 "build: A.a()I: bad jump at 0" -j 1 show a
+
+# The call site's constant is behind the others, and the class has no bootstrap methods.
+fresh first
+{
+    head -c 105 classes/A.class
+    printf '\022\000\000\000\014\014\000\005\000\006'
+    tail -c +106 classes/A.class | head -c 34
+    printf '\272\000\013\000\000\254'
+    tail -c +142 classes/A.class
+} >"$work/changed"
+mv "$work/changed" classes/A.class
+set_byte classes/A.class 9 015
+set_byte classes/A.class 140 022
+set_byte classes/A.class 148 006
+expect "a call site without a bootstrap method" 3 "build: A.a()I: unknown bootstrap at 0" -j 1 show a
+
+fresh first
+printf '\000' >>classes/A.class
+expect "a byte more" 3 "build: classes/A.class: bytes left at 164" -j 1 show a
+left=0
+while [ "$left" -lt 164 ]; do
+    head -c "$left" "$top/examples/first/classes/A.class" >classes/A.class
+    ended=0
+    "$program" -j 1 show a >"$work/got" || ended=$?
+    if [ "$ended" != 3 ]; then
+        echo "a file cut to $left bytes: status $ended in place of 3"
+        failed=1
+    fi
+    left=$((left + 1))
+done
+head -c 9 "$top/examples/first/classes/A.class" >classes/A.class
+expect "a cut class file" 3 "build: classes/A.class: cut short at 8" -j 1 show a
+
+fresh first
+mkdir classes/x
+cp classes/A.class classes/x
+expect "one class in two files" 3 "build: duplicate class A" -j 1 show a
+rm -r classes/x
+rename_class classes/A.class java/lang/String
+expect "a class of the library" 3 "build: duplicate class java/lang/String" -j 1 show a
+
+fresh first
+set_byte classes/A.class 139 013
+rename_class classes/A.class "$(printf 'A\001\\')"
+expect "a name that is escaped" 3 'build: A\u0001\\.a()I: float used' -j 1 show a
+
+fresh first
+mv classes/A.class "classes/$(printf 'A\001\\').class"
+expect "a path that is escaped" 3 'not built: classes/A\u0001\\.class' -j 1 show a
 
 fresh linked
 expect "a linked task" 0 10 -j 1 show b
