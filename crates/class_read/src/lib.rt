@@ -25,6 +25,8 @@ pub use load_fault::LoadFault;
 pub use loading::{is_class_path, load_set};
 
 #[cfg(test)]
+mod load_tests;
+#[cfg(test)]
 mod part_tables;
 #[cfg(test)]
 mod tables;

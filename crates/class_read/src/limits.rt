@@ -59,7 +59,7 @@ fn counted(methods: &[Member]) -> usize
 }
 
 /// Whether the classes have more methods with code than so many.
-fn have_more_methods(classes: &[Class], most: usize) -> bool
+pub(crate) fn have_more_methods(classes: &[Class], most: usize) -> bool
     ensures { result ≡ nat_lt most (count_of Methods classes.now) }
 {
     let mut left = most;
