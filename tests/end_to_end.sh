@@ -194,7 +194,7 @@ broken "an opcode that is none" "build: A.a()I: bad code at 0" 139 312
 broken "a jump that is cut short" "build: A.a()I: bad code at 0" 139 247
 broken "an empty stack" "build: A.a()I: bad frame at 0" 139 127
 broken "a return of nothing" "build: A.a()I: bad frame at 0" 139 254
-broken "a long returned as an int" "build: A.a()I: bad frame at 0" 139 011
+broken "a long on a stack of one slot" "build: A.a()I: bad frame at 0" 139 011
 broken "code without an end" "build: A.a()I: bad frame at 1" 140 000
 broken "a float result" "build: A.f()F: float used" 42 146 48 106
 broken "no class file" "build: classes/A.class: bad magic" 0 000
