@@ -2,7 +2,7 @@
 
 use crate::linked_file::LINKED_TEMPLATE;
 use crate::small_file::SMALL_TEMPLATE;
-use crate::top::mill_one;
+use crate::tests::command;
 use io_traits::{Contents, MemSink, MemStore, MemWorkspace};
 use std::alloc::{AllocGlobal, Global};
 use std::process::Abort;
@@ -141,19 +141,17 @@ struct Seen {
 fn run(alloc: Global, step: &Step<'_>, store: MemStore) -> Result<Seen, Fail> {
     let words = words(alloc, step.words)?;
     let nothing = Bytes::from_vec(Vec::new(alloc));
-    let told = mill_one(
+    let ended = command(
         alloc,
         words.as_slice(),
-        &[],
-        0,
         store,
         workspace(alloc, step.files)?,
         MemSink::new(alloc, nothing, Vec::new(alloc))?,
     );
     Ok(Seen {
-        status: told.status,
-        printed: Bytes::from_slice(alloc, told.sink.as_slice())?,
-        store: told.store,
+        status: ended.status,
+        printed: Bytes::from_slice(alloc, ended.sink.as_slice())?,
+        store: ended.store,
     })
 }
 

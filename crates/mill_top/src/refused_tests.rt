@@ -2,8 +2,7 @@
 
 use crate::build_fault::BuildFault;
 use crate::small_file::{CLASS_AT, SMALL_TEMPLATE};
-use crate::tests::words;
-use crate::top::mill_one;
+use crate::tests::{command, words};
 use class_read::{Limit, LoadFault};
 use io_traits::{Contents, MemSink, MemStore, MemWorkspace};
 use std::alloc::{AllocGlobal, Global};
@@ -249,16 +248,17 @@ fn told(alloc: Global, all: &[Broken]) -> Result<(u8, Bytes), Fail> {
     }
     let words = words(alloc, "a")?;
     let nothing = Bytes::from_vec(Vec::new(alloc));
-    let told = mill_one(
+    let ended = command(
         alloc,
         words.as_slice(),
-        &[],
-        0,
         MemStore::new(alloc, Contents::new(alloc), Vec::new(alloc))?,
         MemWorkspace::new(alloc, files, Vec::new(alloc))?,
         MemSink::new(alloc, nothing, Vec::new(alloc))?,
     );
-    Ok((told.status, Bytes::from_slice(alloc, told.sink.as_slice())?))
+    Ok((
+        ended.status,
+        Bytes::from_slice(alloc, ended.sink.as_slice())?,
+    ))
 }
 
 fn judge<R: Abort + AllocGlobal>(rt: &R, all: &[Broken], line: &str) -> Result<(), Fail> {

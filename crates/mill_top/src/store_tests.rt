@@ -1,7 +1,6 @@
 //! The top call over stores that hold several files, and over stores of which each call fails once.
 
-use crate::tests::{class_file, one_file, words};
-use crate::top::mill_one;
+use crate::tests::{class_file, command, one_file, words};
 use io_traits::{Contents, Leaves, MemSink, MemStore, MemWorkspace};
 use std::alloc::Global;
 use std::test::Fail;
@@ -125,19 +124,18 @@ fn run(
 ) -> Result<Seen, Fail> {
     let files = one_file(alloc, "classes/A.class", &class_file(alloc, 8)?)?;
     let nothing = Bytes::from_vec(Vec::new(alloc));
-    let told = mill_one(
+    let words = words(alloc, task)?;
+    let ended = command(
         alloc,
-        words(alloc, task)?.as_slice(),
-        &[],
-        0,
+        words.as_slice(),
         MemStore::new(alloc, held, vec![in alloc; fails]?)?,
         MemWorkspace::new(alloc, files, vec![in alloc; workspace_fails]?)?,
         MemSink::new(alloc, nothing, Vec::new(alloc))?,
     );
     Ok(Seen {
-        status: told.status,
-        printed: Bytes::from_slice(alloc, told.sink.as_slice())?,
-        held: told.store.contents(),
+        status: ended.status,
+        printed: Bytes::from_slice(alloc, ended.sink.as_slice())?,
+        held: ended.store.contents(),
     })
 }
 

@@ -100,25 +100,48 @@ pub(crate) fn words(alloc: Global, task: &str) -> Result<Vec<Text>, Fail> {
     Ok(words)
 }
 
+// What a command leaves that tests look at.
+#[derive(Drop)]
+pub(crate) struct Ended {
+    pub status: u8,
+    pub store: MemStore,
+    pub sink: MemSink,
+}
+
+// One command. It has no contract, so that what calls it is proved apart from all that `mill_one` says.
+pub(crate) fn command(
+    alloc: Global,
+    words: &[Text],
+    store: MemStore,
+    workspace: MemWorkspace,
+    sink: MemSink,
+) -> Ended {
+    let told = mill_one(alloc, words, &[], 0, store, workspace, sink);
+    Ended {
+        status: told.status,
+        store: told.store,
+        sink: told.sink,
+    }
+}
+
+// The entry of `a`, or nothing.
+fn kept_entry(alloc: Global, held: &Contents) -> Result<Bytes, Fail> {
+    match held.get(&Path::of(alloc, b"a.json")?) {
+        Some(entry) => Ok(entry.copy()?),
+        None => Ok(Bytes::from_vec(Vec::new(alloc))),
+    }
+}
+
 fn run(alloc: Global, case: &Case) -> Result<Seen, Fail> {
     let words = words(alloc, case.task)?;
-    let told = mill_one(
-        alloc,
-        words.as_slice(),
-        &[],
-        0,
-        store(alloc, case)?,
-        workspace(alloc, case)?,
-        sink(alloc, case)?,
-    );
-    let kept = told.store.contents();
+    let store = store(alloc, case)?;
+    let workspace = workspace(alloc, case)?;
+    let sink = sink(alloc, case)?;
+    let ended = command(alloc, words.as_slice(), store, workspace, sink);
     Ok(Seen {
-        status: told.status,
-        printed: Bytes::from_slice(alloc, told.sink.as_slice())?,
-        kept: match kept.get(&Path::of(alloc, b"a.json")?) {
-            Some(entry) => entry.copy()?,
-            None => Bytes::from_vec(Vec::new(alloc)),
-        },
+        status: ended.status,
+        printed: Bytes::from_slice(alloc, ended.sink.as_slice())?,
+        kept: kept_entry(alloc, &ended.store.contents())?,
     })
 }
 
