@@ -1,5 +1,5 @@
 -- Which instructions use floats or doubles (JVMS 6.5, 4.4).
-use Rattle.std.specs.Prelude.{ℕ, Bool, true, false, not, ◌&&◌, ◌||◌, ◌==◌, nat_lt, List}
+use Rattle.std.specs.Prelude.{ℕ, Bool, true, false, ◌&&◌, ◌||◌, ◌==◌, nat_lt, List}
 use Rattle.std.specs.List.{list_any}
 use Rattle.jvm_tables.specs.declared.code.Instr.{Instr}
 use Rattle.jvm_tables.specs.declared.instruction.OpRow.{OpRow}
@@ -34,10 +34,11 @@ is_float_load pool (constants.Handle kind reference) = is_some_that (reference_h
 is_float_load pool (constants.MethodType descriptor) = is_some_that has_float (text_at pool descriptor)
 is_float_load pool _ = false
 
--- ldc loads no double
-abbrev pub is_double : Constant → Bool
-is_double (constants.Double n) = true
-is_double _ = false
+-- JVMS 4.4.4, 4.4.5: looked at before what the instruction may load
+abbrev pub is_float_constant : Constant → Bool
+is_float_constant (constants.Float n) = true
+is_float_constant (constants.Double n) = true
+is_float_constant _ = false
 
 abbrev pub class_has_float : Pool → Constant → Bool
 class_has_float pool (constants.Class name) = is_some_that is_float_array (text_at pool name)
@@ -49,11 +50,11 @@ has_float_arguments class (constants.InvokeDynamic bootstrap name_type) =
     list_any (λ n. is_some_that (is_float_load class.pool) (constant_at class.pool n)) (known_arguments class bootstrap)
 has_float_arguments class _ = false
 
--- A constant that the instruction may not name uses none.
+-- A constant that the instruction may not name uses none, but for a Float or a Double that ldc2_w or ldc names.
 abbrev pub constant_has_float : ConstantUse → Class → Constant → Bool
 constant_has_float uses.Nothing class constant = false
-constant_has_float uses.Loadable class constant = not (is_double constant) && is_float_load class.pool constant
-constant_has_float uses.LoadableLong class constant = is_double constant
+constant_has_float uses.Loadable class constant = is_float_load class.pool constant
+constant_has_float uses.LoadableLong class constant = is_float_constant constant
 constant_has_float uses.Class class constant = class_has_float class.pool constant
 constant_has_float uses.CallSite class constant =
     is_some_that has_float (descriptor_named uses.CallSite class.pool constant) || has_float_arguments class constant

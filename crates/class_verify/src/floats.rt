@@ -1,11 +1,11 @@
 //! Which instructions use floats or doubles (JVMS 6.5, 4.4).
 
-ghost use Rattle.std.specs.Prelude.{◌≡◌, ◌==◌, ◌&&◌, not};
+ghost use Rattle.std.specs.Prelude.{◌≡◌, ◌==◌, ◌&&◌};
 ghost use Rattle.std.specs.List.{list_any};
 ghost use Rattle.class_model.specs.Constants.{text_at, constant_at, is_some_that};
 ghost use Rattle.class_verify.specs.Types.{has_float};
 ghost use Rattle.class_verify.specs.Constants.{descriptor_at, descriptor_named};
-ghost use Rattle.class_verify.specs.Floats.{is_float_array, reference_has_float, is_float_load, is_double, class_has_float, has_float_arguments, constant_has_float, makes_floats, uses_float};
+ghost use Rattle.class_verify.specs.Floats.{is_float_array, reference_has_float, is_float_load, is_float_constant, class_has_float, has_float_arguments, constant_has_float, makes_floats, uses_float};
 
 use crate::bootstraps::known_arguments;
 use crate::constants::{constant_of, descriptor_at, descriptor_named, dimensions_of, number_of};
@@ -64,10 +64,10 @@ fn is_float_load(pool: &Pool, constant: &Constant) -> bool
     }
 }
 
-fn is_double(constant: &Constant) -> bool
-    ensures { result ≡ is_double constant.now }
+fn is_float_constant(constant: &Constant) -> bool
+    ensures { result ≡ is_float_constant constant.now }
 {
-    matches!(constant, Constant::Double(_))
+    matches!(constant, Constant::Float(_) | Constant::Double(_))
 }
 
 fn class_has_float(pool: &Pool, constant: &Constant) -> bool
@@ -124,8 +124,8 @@ fn constant_has_float(named: ConstantUse, class: &Class, constant: &Constant) ->
 {
     match named {
         ConstantUse::Nothing => false,
-        ConstantUse::Loadable => !is_double(constant) && is_float_load(&class.pool, constant),
-        ConstantUse::LoadableLong => is_double(constant),
+        ConstantUse::Loadable => is_float_load(&class.pool, constant),
+        ConstantUse::LoadableLong => is_float_constant(constant),
         ConstantUse::Class => class_has_float(&class.pool, constant),
         ConstantUse::CallSite => {
             named_has_float(ConstantUse::CallSite, &class.pool, constant)

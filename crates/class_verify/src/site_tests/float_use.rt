@@ -14,12 +14,12 @@ fn is_float_use(class: &Class, op: u8, first: u16) -> Option<bool> {
 
 /// An opcode, its constant, and whether it uses floats.
 static ROWS: [(u8, Entry, bool); 37] = [
-    // Constants that are loaded. A constant that may not be loaded so is no float use.
+    // Constants that are loaded. A Float or a Double is float use by any of the three opcodes.
     (0x12, Entry::Float, true),
     (0x13, Entry::Float, true),
     (0x14, Entry::Double, true),
-    (0x12, Entry::Double, false),
-    (0x14, Entry::Float, false),
+    (0x12, Entry::Double, true),
+    (0x14, Entry::Float, true),
     (0x12, Entry::Integer, false),
     (0x14, Entry::Long, false),
     (0x12, Entry::Text("F"), false),
