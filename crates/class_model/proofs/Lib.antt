@@ -6,3 +6,4 @@ pub mod ProgramLemmas
 pub mod Dimensions
 pub mod Parameters
 pub mod TestClasses
+pub mod ClassParts

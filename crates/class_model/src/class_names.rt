@@ -54,5 +54,18 @@ pub fn is_method_name(name: &[u8]) -> bool
 pub fn is_class_name(name: &[u8]) -> bool
     ensures { result ≡ is_class_name name.now }
 {
-    name.split(|b| *b == b'/').all(|part| is_unqualified(part))
+    let mut is_fresh = true;
+    for byte in name {
+        if *byte == b'/' {
+            if is_fresh {
+                return false;
+            }
+            is_fresh = true;
+        } else if may_stand(*byte) {
+            is_fresh = false;
+        } else {
+            return false;
+        }
+    }
+    !is_fresh
 }
