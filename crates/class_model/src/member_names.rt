@@ -11,7 +11,7 @@ pub struct MemberNames<'a> {
 }
 
 impl<'a> MemberNames<'a> {
-    ghost use Rattle.std.specs.Prelude.{◌≡◌, ◌++◌, ◌∷◌, [], List, not, IfOk, OnOk};
+    ghost use Rattle.std.specs.Prelude.{◌≡◌, ◌++◌, ◌∷◌, [], List, not, IfOk, OnOk, OnErr};
     ghost use Rattle.std.specs.List.{list_any};
     ghost use Rattle.class_model.specs.declared.constant_pool.Pool.{Pool};
     ghost use Rattle.class_model.specs.declared.class_file.Member.{Member};
@@ -33,6 +33,7 @@ impl<'a> MemberNames<'a> {
             → HasSeen pool.now before self.old → IfOk result (λ added. added ≡ not (list_any (are_same pool.now m) before)) }
         ensures seen { (before : List Member) (m : Member) → m.name ≡ name → m.descriptor ≡ descriptor
             → HasSeen pool.now before self.old → OnOk result (HasSeen pool.now (before ++ m ∷ []) self.new) }
+        ensures same { (before : List Member) → HasSeen pool.now before self.old → OnErr result (HasSeen pool.now before self.new) }
     {
         let key = (pool.text_or_empty(name), pool.text_or_empty(descriptor));
         Ok(self.seen.insert(key)?)
