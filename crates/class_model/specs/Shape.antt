@@ -13,9 +13,12 @@ use Rattle.class_model.specs.Constants.{text_at, class_at, is_some_that, IsPool}
 use Rattle.class_model.specs.Annotations.{IsCounted}
 use Rattle.class_model.specs.Attributes.{in_class, in_field, in_method, once_each, IsAttributes}
 
--- JVMS 4.6, table 4.6-A
+-- access flags (JVMS tables 4.1-B, 4.5-A and 4.6-A)
 abbrev pub has_flag : ℕ → ℕ → Bool
 has_flag flag flags = not (bit_and flags flag == 0)
+
+abbrev pub is_private : ℕ → Bool
+is_private = has_flag 0x0002
 
 abbrev pub is_static : ℕ → Bool
 is_static = has_flag 0x0008
@@ -23,8 +26,15 @@ is_static = has_flag 0x0008
 abbrev pub is_native : ℕ → Bool
 is_native = has_flag 0x0100
 
+abbrev pub is_interface : ℕ → Bool
+is_interface = has_flag 0x0200
+
 abbrev pub is_abstract : ℕ → Bool
 is_abstract = has_flag 0x0400
+
+-- A method that is abstract or native has no code (JVMS 4.7.3).
+abbrev pub is_bare : ℕ → Bool
+is_bare flags = is_abstract flags || is_native flags
 
 -- a class or interface, which is no array class
 unfoldable pub is_plain_class : Pool → ℕ → Bool
@@ -65,7 +75,7 @@ pub record IsMethod (pool : Pool) (m : Member) : Type 0 where
   pub name : IsTrue (is_some_that is_method_name (text_at pool m.name))
   pub descriptor : IsTrue (is_some_that (is_method_descriptor (most_slots m.flags)) (text_at pool m.descriptor))
   pub attributes : IsAttributes pool in_method m.attributes
-  pub code : has_code m.attributes ≡ not (is_abstract m.flags || is_native m.flags)
+  pub code : has_code m.attributes ≡ not (is_bare m.flags)
 
 -- counted members, no two of them with one name and one descriptor
 pub record IsMembers (Each : Member → Type 0) (pool : Pool) (members : List Member) : Type 0 where

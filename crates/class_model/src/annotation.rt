@@ -2,6 +2,9 @@
 
 use sqlite_items::Items;
 
+/// The depth that a value of an annotation has at most. An outermost value has depth 1.
+pub const GREATEST_DEPTH: u8 = 64;
+
 /// Annotations in one place, in file order.
 pub type Notes = Items<Note>;
 

@@ -1,5 +1,8 @@
 //! Attributes (JVMS 4.7).
 
+ghost use Rattle.std.specs.Prelude.{◌≡◌};
+ghost use Rattle.class_model.specs.Shape.{has_code};
+
 use crate::annotation::Notes;
 use crate::class_file::Indices;
 use crate::constant_pool::Raw;
@@ -69,4 +72,42 @@ pub struct Handler {
 pub struct Bootstrap {
     pub handle: u16,
     pub arguments: Indices,
+}
+
+impl Attribute {
+    ghost use Rattle.std.specs.Prelude.{◌≡◌};
+    ghost use Rattle.class_model.specs.declared.attribute_forms.Attribute.{out-Attribute};
+    ghost use Rattle.class_model.specs.Shape.{is_code_layer};
+    ghost use Rattle.class_model.specs.Spelling.{name_of};
+
+    /// The index of its name.
+    pub fn name(&self) -> u16
+        ensures { result ≡ name_of (out-Attribute self.now) }
+    {
+        match self {
+            Attribute::Code { name, .. } => *name,
+            Attribute::StackMap { name, .. } => *name,
+            Attribute::ConstantValue { name, .. } => *name,
+            Attribute::Bootstrap { name, .. } => *name,
+            Attribute::Annotations { name, .. } => *name,
+            Attribute::Other { name, .. } => *name,
+        }
+    }
+
+    /// Whether it is the code of a method.
+    pub fn is_code(&self) -> bool
+        ensures { result ≡ is_code_layer (out-Attribute self.now) }
+    {
+        match self {
+            Attribute::Code { .. } => true,
+            _ => false,
+        }
+    }
+}
+
+/// Whether code is among attributes.
+pub fn has_code(attributes: &[Attribute]) -> bool
+    ensures { result ≡ has_code attributes.now }
+{
+    attributes.iter().any(|attribute| attribute.is_code())
 }

@@ -6,6 +6,9 @@ use crate::attribute_forms::Attributes;
 use crate::constant_pool::Pool;
 use sqlite_items::Items;
 
+/// The first four bytes of a class file.
+pub const MAGIC: u32 = 0xcafe_babe;
+
 /// Indices into a pool.
 pub type Indices = Items<u16>;
 

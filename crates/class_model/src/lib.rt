@@ -3,6 +3,7 @@
 //! rest on `Shaped`, which says of a class alone that it has a text, and on `Program`, whose classes are shaped.
 #![tactic(auto)]
 
+mod access_flags;
 mod annotation;
 mod attribute_forms;
 mod class_file;
@@ -17,9 +18,15 @@ mod name_text;
 mod program_list;
 mod stack_map;
 
-pub use annotation::{Element, Elements, Note, Notes, Pair, Pairs};
-pub use attribute_forms::{Attribute, Attributes, Bootstrap, Bootstraps, Handler, Handlers};
-pub use class_file::{Class, Indices, Member, Members};
+pub use access_flags::{
+    ACC_ABSTRACT, ACC_INTERFACE, ACC_NATIVE, ACC_PRIVATE, ACC_STATIC, has_flag, is_abstract,
+    is_bare, is_interface, is_native, is_private, is_static, most_slots,
+};
+pub use annotation::{Element, Elements, GREATEST_DEPTH, Note, Notes, Pair, Pairs};
+pub use attribute_forms::{
+    Attribute, Attributes, Bootstrap, Bootstraps, Handler, Handlers, has_code,
+};
+pub use class_file::{Class, Indices, MAGIC, Member, Members};
 pub use class_names::{is_class_name, is_method_name, is_unqualified};
 pub use constant_pool::{Constant, Constants, Pool, Raw};
 pub use descriptor_text::{
