@@ -25,15 +25,16 @@ pub use externals::{
 };
 pub use instruction::{ConstantUse, Flow, Form, OpRow, Operands, Operation, Throws, ValueKind};
 pub use laws::{
-    instructions_end_within, instructions_have_rows, own_bytes_decide, switch_keys_lead,
-    switch_keys_rise,
+    instructions_end_within, instructions_have_rows, own_bytes_decide,
+    switch_keys_lead, switch_keys_rise,
 };
 pub use natives::{
     Callback, NATIVES, NativeFacts, NativeRow, callbacks_can_be_called, native_at,
     native_classes_are_external, native_row, natives_occur_once,
 };
 pub use opcodes::{
-    OPCODES, op_row, opcodes_agree_with_their_forms, opcodes_stand_once,
+    OPCODES, float_operations_are_float, op_row, opcodes_agree_with_their_forms,
+    opcodes_are_numbered_by_their_operations, opcodes_do_as_their_operations, opcodes_stand_once,
     thrown_classes_are_external,
 };
 pub use switching::{is_switch, switch_case, switch_len, switch_target};

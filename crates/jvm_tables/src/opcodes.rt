@@ -1,7 +1,10 @@
 //! The table of instructions.
 
 ghost use Rattle.std.specs.Prelude.{◌≡◌, IsTrue};
-ghost use Rattle.jvm_tables.specs.Agreement.{agrees};
+ghost use Rattle.jvm_tables.specs.Agreement.{agrees, same};
+ghost use Rattle.jvm_tables.specs.ByOperation.{TakesAsTold, GivesAsTold, ReadsAsTold, WritesAsTold, FlowsAsTold, ThrowsAsTold, NamesAsTold, InitialisesAsTold};
+ghost use Rattle.jvm_tables.specs.Numbering.{is_numbered};
+ghost use Rattle.jvm_tables.specs.Operations.{is_float};
 ghost use Rattle.jvm_tables.specs.Opcodes.{row_of, find_row, stands_from, every};
 ghost use Rattle.jvm_tables.specs.Thrown.{thrown, are_throwables};
 
@@ -279,6 +282,31 @@ pub fn opcodes_stand_once()
 /// operand form.
 pub fn opcodes_agree_with_their_forms()
     ensures { IsTrue (every agrees OPCODES) }
+{}
+
+/// Each row that is no float use says what its operation does (JVMS 6.5): what it takes off the
+/// operand stack and gives there, the local that it reads and writes, where control goes, what it
+/// may throw, the constant that it names, and whether it initialises a class.
+pub fn opcodes_do_as_their_operations()
+    ensures takes { TakesAsTold }
+    ensures gives { GivesAsTold }
+    ensures reads { ReadsAsTold }
+    ensures writes { WritesAsTold }
+    ensures flows { FlowsAsTold }
+    ensures throws { ThrowsAsTold }
+    ensures names { NamesAsTold }
+    ensures initialises { InitialisesAsTold }
+{}
+
+/// Each row has a form and the opcode of its operation, and implies the number or local by which its
+/// opcode stands after the one that implies 0.
+pub fn opcodes_are_numbered_by_their_operations()
+    ensures { IsTrue (every is_numbered OPCODES) }
+{}
+
+/// A row is float use where its operation is.
+pub fn float_operations_are_float()
+    ensures { IsTrue (every (λ row. same row.is_float (is_float row.operation)) OPCODES) }
 {}
 
 /// The classes that an instruction may throw are throwables of the table of external classes.
