@@ -1,5 +1,5 @@
 -- What is known of an instruction that was decoded.
-use Rattle.std.proofs.Common.{◌≡◌, ◌≢◌, ℕ, ◌+◌, ◌<◌, ◌≤◌, List, true, false, ◌&&◌, cond, Option, Some, None, Ok, Err, refl, sym, ◌∙◌, ap, arith, length, get_or, drop, nat_lt, nat_le, eqb, ℤ, pos, int_lt, unsigned_abs, ◌⊎◌, inl, inr, IsSomeAnd}
+use Rattle.std.proofs.Common.{◌≡◌, ◌≢◌, ℕ, ◌+◌, ◌<◌, ◌≤◌, List, Bool, true, false, ◌&&◌, cond, Option, Some, None, Ok, Err, refl, sym, ◌∙◌, ap, arith, length, get_or, drop, nat_lt, nat_le, eqb, ℤ, pos, int_lt, unsigned_abs, ◌⊎◌, inl, inr, IsSomeAnd}
 use Rattle.std.proofs.lemmas.Grind.{get_or_after_one}
 use Rattle.std.proofs.lemmas.List.{length-drop}
 use Rattle.jvm_tables.specs.declared.code.CodeFault.TheVariants.{BadOperand, CutShort, UnknownOp, FloatOp}
@@ -7,7 +7,7 @@ use Rattle.jvm_tables.specs.declared.code.Instr.{Instr}
 use Rattle.jvm_tables.specs.declared.instruction.Form.{Form}
 use Rattle.jvm_tables.specs.declared.instruction.Form.TheVariants as forms
 use Rattle.jvm_tables.specs.declared.instruction.OpRow.{OpRow}
-use Rattle.jvm_tables.specs.Agreement.{length_of, names_local, increments, is_switch}
+use Rattle.jvm_tables.specs.Agreement.{length_of, names_local, increments}
 use Rattle.jvm_tables.specs.Decoding.{plain, by_form, interface_call, call_site, element_type, dimensions, increment, wide_local, wide_increment, wide_form, widened, wide, known, decoding}
 use Rattle.jvm_tables.specs.Opcodes.{row_of}
 use Rattle.jvm_tables.specs.Switches.{◌>>=◌, byte_at, short_at, word, word_at, padding, keys_rise, lookup_pairs, table_size, lookup_size, table_switch, lookup_switch, lookup_switch_pairs, switch_instr, IsTable, IsLookup}
@@ -257,25 +257,26 @@ wide_or_narrow pc bytes i d =
       | inr n ↦ inr (n, narrow_form d.row.form pc d.row (drop 1 bytes) (length_of_row d.byte d.row d.found) n i d.formed)
     ]
 
-local_no_switch : (form : Form) → names_local form ≡ true ⊎ increments form ≡ true → is_switch form ≡ false
-local_no_switch forms.TableSwitch h = elim h [ inl e ↦ cc | inr e ↦ cc ]
-local_no_switch forms.LookupSwitch h = elim h [ inl e ↦ cc | inr e ↦ cc ]
-local_no_switch _ h = refl
+never : true ≡ false → ⊥
+never e = cc
 
--- a switch is the instruction of its own opcode
-pub switch_row : (pc : ℕ) (bytes : List ℕ) (i : Instr) (d : Decoded pc bytes i) → is_switch (form_of (row_of i.op)) ≡ true → row_of i.op ≡ Some d.row
-switch_row pc bytes i d s =
+-- an instruction whose form names no local is the one of its own opcode
+own_row : (pc : ℕ) (bytes : List ℕ) (i : Instr) (d : Decoded pc bytes i) (form : Form) → names_local form ≡ false → increments form ≡ false → form_of (row_of i.op) ≡ form → row_of i.op ≡ Some d.row
+own_row pc bytes i d form no_local no_increment e =
     elim (wide_or_narrow pc bytes i d) [
       | inl w ↦
-          let no : is_switch w.1.row.form ≡ false = local_no_switch w.1.row.form (wide_has_local i.op w.1.row w.1.found w.1.takes) in
-          let yes : is_switch w.1.row.form ≡ true = sym (ap (λ r. is_switch (form_of r)) w.1.found) ∙ s in
-          absurd (let never : true ≡ false = sym yes ∙ no in cc)
+          let own : w.1.row.form ≡ form = sym (ap form_of w.1.found) ∙ e in
+          elim (wide_has_local i.op w.1.row w.1.found w.1.takes) [
+            | inl names ↦ absurd (never (sym names ∙ ap names_local own ∙ no_local))
+            | inr adds ↦ absurd (never (sym adds ∙ ap increments own ∙ no_increment))
+          ]
       | inr n ↦ ap row_of (n.1.op ∙ opcode_of d.byte d.row d.found) ∙ d.found
     ]
 
-formed_as : (pc : ℕ) (bytes : List ℕ) (i : Instr) (d : Decoded pc bytes i) (form : Form) → is_switch form ≡ true → form_of (row_of i.op) ≡ form → by_form form pc d.row (drop 1 bytes) ≡ Ok i
-formed_as pc bytes i d form s e =
-    let found : row_of i.op ≡ Some d.row = switch_row pc bytes i d (ap is_switch e ∙ s) in
+-- and is decoded by that form
+pub formed_as : (pc : ℕ) (bytes : List ℕ) (i : Instr) (d : Decoded pc bytes i) (form : Form) → names_local form ≡ false → increments form ≡ false → form_of (row_of i.op) ≡ form → by_form form pc d.row (drop 1 bytes) ≡ Ok i
+formed_as pc bytes i d form no_local no_increment e =
+    let found : row_of i.op ≡ Some d.row = own_row pc bytes i d form no_local no_increment e in
     let own : d.row.form ≡ form = sym (ap form_of found) ∙ e in
     sym (ap (λ f. by_form f pc d.row (drop 1 bytes)) own) ∙ d.formed
 
@@ -283,13 +284,13 @@ formed_as pc bytes i d form s e =
 pub table_there : (pc : ℕ) (bytes : List ℕ) (i : Instr) → decoding pc bytes ≡ Ok i → form_of (row_of i.op) ≡ forms.TableSwitch → IsTable pc (drop 1 bytes)
 table_there pc bytes i h e =
     let d : Decoded pc bytes i = decoded pc bytes i h in
-    (sure_table pc d.row (drop 1 bytes) i (formed_as pc bytes i d forms.TableSwitch refl e)).table
+    (sure_table pc d.row (drop 1 bytes) i (formed_as pc bytes i d forms.TableSwitch refl refl e)).table
 
 -- a decoded lookupswitch is whole
 pub lookup_there : (pc : ℕ) (bytes : List ℕ) (i : Instr) → decoding pc bytes ≡ Ok i → form_of (row_of i.op) ≡ forms.LookupSwitch → IsLookup pc (drop 1 bytes)
 lookup_there pc bytes i h e =
     let d : Decoded pc bytes i = decoded pc bytes i h in
-    (sure_lookup pc d.row (drop 1 bytes) i (formed_as pc bytes i d forms.LookupSwitch refl e)).lookup
+    (sure_lookup pc d.row (drop 1 bytes) i (formed_as pc bytes i d forms.LookupSwitch refl refl e)).lookup
 
 -- where an instruction is decoded, there is a byte
 pub byte_there : (pc : ℕ) (bytes : List ℕ) (i : Instr) → decoding pc bytes ≡ Ok i → 0 < length bytes
@@ -307,4 +308,30 @@ its_row pc bytes i e =
       | inr n ↦
           let own : i.op ≡ d.byte = n.1.op ∙ opcode_of d.byte d.row d.found in
           (ap (λ b. get_or bytes (cond b 1 0) 0) n.1.narrow ∙ d.first ∙ sym own, rw (own, d.found) d.plain)
+    ]
+
+abbrev takes_wide_of : Option OpRow → Bool
+takes_wide_of None = false
+takes_wide_of (Some row) = row.takes_wide
+
+wide_form_of_it : form_of (row_of 196) ≡ forms.Wide
+unfolding row_of
+wide_form_of_it = refl
+
+wide_takes_none : takes_wide_of (row_of 196) ≡ false
+unfolding row_of
+wide_takes_none = refl
+
+-- No instruction that is decoded has the opcode of `wide`.
+pub never_wide : (pc : ℕ) (bytes : List ℕ) (i : Instr) → decoding pc bytes ≡ Ok i → i.op ≢ 196
+never_wide pc bytes i e is_wide =
+    let d : Decoded pc bytes i = decoded pc bytes i e in
+    elim (wide_or_narrow pc bytes i d) [
+      | inl w ↦
+          let yes : takes_wide_of (row_of i.op) ≡ true = ap takes_wide_of w.1.found ∙ w.1.takes in
+          never (sym yes ∙ ap (λ op. takes_wide_of (row_of op)) is_wide ∙ wide_takes_none)
+      | inr n ↦
+          let own : i.op ≡ d.byte = n.1.op ∙ opcode_of d.byte d.row d.found in
+          let form : form_of (row_of i.op) ≡ d.row.form = ap (λ op. form_of (row_of op)) own ∙ ap form_of d.found in
+          n.0 (sym form ∙ ap (λ op. form_of (row_of op)) is_wide ∙ wide_form_of_it)
     ]

@@ -17,6 +17,10 @@ abbrev pub HasItsRow : Type 0
 HasItsRow =
     (pc : ℕ) (bytes : List ℕ) (instr : Instr) → decoding pc bytes ≡ Ok instr → (slice_index bytes (if instr.wide then 1 else 0) ≡ instr.op) × IsSomeAnd (row_of instr.op) (λ row. row.is_float ≡ false)
 
+-- Its opcode is never that of `wide`, which goes before another.
+abbrev pub NeverWide : Type 0
+NeverWide = (pc : ℕ) (bytes : List ℕ) (instr : Instr) → decoding pc bytes ≡ Ok instr → instr.op ≢ 196
+
 -- Its own bytes decide, whatever stands after them.
 abbrev pub OwnBytesDecide : Type 0
 OwnBytesDecide =

@@ -2,6 +2,7 @@ pub mod Agreement
 pub mod ByOperation
 pub mod Callbacks
 pub mod Decoding
+pub mod Elements
 pub mod Externals
 pub mod Forms
 pub mod Hierarchy
@@ -12,6 +13,7 @@ pub mod Numbering
 pub mod Once
 pub mod Opcodes
 pub mod Operations
+pub mod Pushed
 pub mod StackEffects
 pub mod Switches
 pub mod Switching

@@ -1,7 +1,7 @@
 //! What holds of every instruction that is decoded, and of every switch, as contracts of functions
 //! that do nothing.
 
-ghost use Rattle.jvm_tables.specs.Laws.{EndsWithin, HasItsRow, OwnBytesDecide, KeysRise, KeyLeads, OthersLeadToDefault};
+ghost use Rattle.jvm_tables.specs.Laws.{EndsWithin, HasItsRow, NeverWide, OwnBytesDecide, KeysRise, KeyLeads, OthersLeadToDefault};
 
 /// An instruction stands at its place, has a length, and ends within the code.
 #[tactic(auto, using(crate::proofs::Same::ends_within))]
@@ -13,6 +13,12 @@ pub fn instructions_end_within()
 /// no float use.
 pub fn instructions_have_rows()
     ensures { HasItsRow }
+{}
+
+/// The opcode of an instruction is never `wide`, which only goes before another.
+#[tactic(auto, using(crate::proofs::Decoded::never_wide))]
+pub fn instructions_are_never_wide()
+    ensures { NeverWide }
 {}
 
 /// The bytes of an instruction decide what it is, whatever stands after them.

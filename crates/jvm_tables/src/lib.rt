@@ -6,11 +6,13 @@
 
 mod code;
 mod decoding;
+mod elements;
 mod externals;
 mod instruction;
 mod laws;
 mod natives;
 mod opcodes;
+mod pushed;
 mod reading;
 mod switches;
 mod switching;
@@ -19,13 +21,14 @@ mod tests;
 
 pub use code::{CodeFault, Instr};
 pub use decoding::decode;
+pub use elements::{ElementKind, element_kind, newarray_names_an_element};
 pub use externals::{
     EXTERNALS, ExternalFacts, ExternalMethod, ExternalRow, Family, external, external_at,
     external_names_rise, external_supers_end, externals_agree,
 };
 pub use instruction::{ConstantUse, Flow, Form, OpRow, Operands, Operation, Throws, ValueKind};
 pub use laws::{
-    instructions_end_within, instructions_have_rows, own_bytes_decide,
+    instructions_are_never_wide, instructions_end_within, instructions_have_rows, own_bytes_decide,
     switch_keys_lead, switch_keys_rise,
 };
 pub use natives::{
@@ -37,4 +40,5 @@ pub use opcodes::{
     opcodes_are_numbered_by_their_operations, opcodes_do_as_their_operations, opcodes_stand_once,
     thrown_classes_are_external,
 };
+pub use pushed::{PushedNumber, pushed_number};
 pub use switching::{is_switch, switch_case, switch_len, switch_target};
