@@ -1,4 +1,3 @@
-pub mod DescriptorLemmas
 pub mod Firsts
 pub mod Fitting
 pub mod Methods
@@ -10,6 +9,5 @@ pub mod Stacking
 pub mod Strays
 pub mod Switched
 pub mod Tables
-pub mod Uses
 pub mod Verifying
 pub mod Walking

@@ -1,34 +1,12 @@
--- Attributes, frames and methods, one after another.
+-- Frames, one after another.
 use Rattle.std.proofs.Common.{◌≡◌, ℕ, ◌+◌, ◌<◌, ◌≤◌, List, [], ◌∷◌, ◌++◌, length, drop, get_or, None, sym, ap, ◌∙◌, append_assoc}
 use Rattle.std.specs.Prelude.{nat_le}
 use Rattle.std.proofs.lemmas.List.{drop_more, drop_all, append-nil}
-use Rattle.class_model.specs.declared.attribute_forms.Attribute.{Attribute, out-Attribute}
 use Rattle.class_model.specs.declared.stack_map.FrameType.{FrameType}
 use Rattle.class_model.specs.declared.stack_map.StackFrame.{StackFrame}
 use Rattle.class_verify.specs.declared.frames.Limits.{Limits}
 use Rattle.class_verify.specs.declared.frames.Written.{Written}
 use Rattle.class_verify.specs.Frames.{chopped, types_after, written, frames_from}
-use Rattle.class_verify.specs.Verified.{code_or, code_in, frames_or, stack_map_in}
-
-pub code_step : (attributes : List Attribute) (i : ℕ) (a : Attribute) → i < length attributes → a ≡ get_or attributes i a
-    → code_in (drop i attributes) ≡ code_or (out-Attribute a) (code_in (drop (i + 1) attributes))
-unfolding code_in
-code_step attributes i a h e =
-    ap code_in (drop_more attributes i a h) ∙ ap (λ x. code_or (out-Attribute x) (code_in (drop (i + 1) attributes))) (sym e)
-
-pub code_end : (attributes : List Attribute) (i : ℕ) → length attributes ≤ i → code_in (drop i attributes) ≡ None
-unfolding code_in
-code_end attributes i h = ap code_in (drop_all i attributes h)
-
-pub map_step : (attributes : List Attribute) (i : ℕ) (a : Attribute) → i < length attributes → a ≡ get_or attributes i a
-    → stack_map_in (drop i attributes) ≡ frames_or (out-Attribute a) (stack_map_in (drop (i + 1) attributes))
-unfolding stack_map_in
-map_step attributes i a h e =
-    ap stack_map_in (drop_more attributes i a h) ∙ ap (λ x. frames_or (out-Attribute x) (stack_map_in (drop (i + 1) attributes))) (sym e)
-
-pub map_end : (attributes : List Attribute) (i : ℕ) → length attributes ≤ i → stack_map_in (drop i attributes) ≡ []
-unfolding stack_map_in
-map_end attributes i h = ap stack_map_in (drop_all i attributes h)
 
 pub frames_step : (limits : Limits) (next : ℕ) (before : List FrameType) (frames : List StackFrame) (i : ℕ) (f : StackFrame) (found : List Written)
     → i < length frames → f ≡ get_or frames i f

@@ -34,8 +34,9 @@ use Rattle.class_verify.specs.Laws.{IsMet, IsCaught, EachIsSafe}
 use Rattle.class_verify.specs.Misfits.{unless, ◌<|>◌, is_float_frame, is_result, ends_well, is_sound_after, is_sound, named_cause, cause_of, by_decoded, cause_at, strays, at_instruction, at_no_instruction, BodyFits}
 use Rattle.class_verify.specs.Places.{next_place, leads_to, begins}
 use Rattle.class_verify.specs.Shapes.{shape_fits}
-use Rattle.class_verify.specs.Sites.{has_unknown_site}
-use Rattle.class_verify.specs.Targets.{targets_by, falls, fits_written, is_accepted, accepts, covers, is_thrown, catches_in, is_caught, catches}
+use Rattle.class_code.specs.Sites.{has_unknown_site}
+use Rattle.class_code.specs.Control.{covers, falls, targets_by}
+use Rattle.class_verify.specs.Targets.{fits_written, is_accepted, accepts, is_thrown, catches_in, is_caught, catches}
 use Rattle.class_verify.proofs.Tables.{leads_nowhere}
 
 -- of causes in order none holds

@@ -17,7 +17,7 @@ use Rattle.class_model.specs.Constants.{text_at, is_some_that, IsPool}
 use Rattle.class_model.specs.Attributes.{in_method, in_code, HasForm, IsCodeAttribute, IsCodeAttributes, IsAttribute}
 use Rattle.class_model.specs.Shape.{IsMethod, Shaped, most_slots, name_text, descriptor_text}
 use Rattle.class_model.proofs.NameOfClass.{text_at-IsText}
-use Rattle.class_verify.specs.Verified.{CodeParts, code_or, code_in, frames_or, stack_map_in}
+use Rattle.class_code.specs.Codes.{stack_map_in, frames_or, code_in, code_or, CodeParts}
 
 pub record IsSized (c : CodeParts) : Type 0 where
   pub some : 0 < length c.code

@@ -15,8 +15,9 @@ use Rattle.class_verify.specs.declared.fault.VerifyFault.TheVariants as faults
 use Rattle.class_verify.specs.Bodies.{Body}
 use Rattle.class_verify.specs.Misfits.{BodyFits, IsFirstMisfit}
 use Rattle.class_verify.specs.Programs.{IsFirstUnfit}
-use Rattle.class_verify.specs.Types.{has_float}
-use Rattle.class_verify.specs.Verified.{CodeParts, code_in, body_of, CodeFits, MethodFits, Fits, IsMethodMisfit, in_descriptor, in_code, IsNamed, fault_of, IsRefusal, named, memory, IsFirstIn, IsMisfitIn, IsMisfitOf}
+use Rattle.class_code.specs.Types.{has_float}
+use Rattle.class_code.specs.Codes.{code_in, CodeParts}
+use Rattle.class_verify.specs.Verified.{body_of, CodeFits, MethodFits, Fits, IsMethodMisfit, in_descriptor, in_code, IsNamed, fault_of, IsRefusal, named, memory, IsFirstIn, IsMisfitIn, IsMisfitOf}
 
 -- a list round one of its items
 pub around : {A : Type 0} (xs : List A) (i : ℕ) (x : A) → i < length xs → x ≡ get_or xs i x → xs ≡ take i xs ++ (x ∷ drop (i + 1) xs)

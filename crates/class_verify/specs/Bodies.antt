@@ -14,7 +14,7 @@ use Rattle.class_verify.specs.Effects.{left}
 use Rattle.class_verify.specs.Frames.{frame_at}
 use Rattle.class_verify.specs.Places.{next_place}
 use Rattle.class_verify.specs.Shapes.{shape_fits}
-use Rattle.class_verify.specs.Targets.{falls}
+use Rattle.class_code.specs.Control.{falls}
 
 -- `result` is the kind of the method's result; `first` is the shape as it begins, None where the arguments pass the
 -- locals.

@@ -1,15 +1,15 @@
 -- What an instruction leaves on the operand stack and in the locals (JVMS 6.5, 4.10.1.9).
-use Rattle.std.specs.Prelude.{ℕ, Bool, true, false, ◌||◌, nat_le, List, length, reverse, Option, Some, None, option_map, option_and_then, if◌then◌else◌}
+use Rattle.std.specs.Prelude.{ℕ, Bool, true, false, nat_le, List, length, reverse, Option, Some, None, option_map, option_and_then, if◌then◌else◌}
 use Rattle.jvm_tables.specs.declared.code.Instr.{Instr}
 use Rattle.jvm_tables.specs.declared.instruction.Operands.{Operands}
 use Rattle.jvm_tables.specs.declared.instruction.Operands.TheVariants as operands
 use Rattle.jvm_tables.specs.declared.instruction.OpRow.{OpRow}
 use Rattle.jvm_tables.specs.declared.instruction.ValueKind.{ValueKind}
-use Rattle.jvm_tables.specs.Agreement.{names_local, increments}
 use Rattle.class_model.specs.declared.class_file.Class.{Class}
 use Rattle.class_verify.specs.declared.kinds.Kind.{Kind}
 use Rattle.class_verify.specs.declared.shape.Shape.{Shape}
-use Rattle.class_verify.specs.Constants.{Use, use_of, number_of}
+use Rattle.class_code.specs.Constants.{Use, use_of}
+use Rattle.class_code.specs.Operands.{local_of}
 use Rattle.class_verify.specs.Locals.{holds, stored}
 use Rattle.class_verify.specs.Stacks.{below_values, with_values, moved}
 
@@ -25,11 +25,6 @@ used (Some values) stack = option_map (with_values values.gives) (below_values (
 unfoldable pub stack_after : Class → OpRow → Instr → List Kind → Option (List Kind)
 stack_after class row instr stack =
     if is_slots row.takes then moved row.operation stack else used (use_of class row instr) stack
-
--- the local that an instruction names, or that its opcode implies
-abbrev pub local_of : OpRow → Instr → ℕ
-local_of row instr =
-    if names_local row.form || increments row.form then number_of instr.first else number_of row.implied
 
 abbrev pub is_read : Option ValueKind → ℕ → List Kind → Bool
 is_read None at locals = true

@@ -12,9 +12,9 @@ use Rattle.class_model.specs.declared.constant_pool.Pool.{Pool}
 use Rattle.class_model.specs.declared.constant_pool.Constant.{Constant}
 use Rattle.class_model.specs.declared.constant_pool.Constant.TheVariants as constants
 use Rattle.class_model.specs.Constants.{constant_at, text_at, is_some_that}
-use Rattle.class_verify.specs.Types.{has_float}
-use Rattle.class_verify.specs.Constants.{number_of, constant_of, descriptor_at, descriptor_named, dimensions_of}
-use Rattle.class_verify.specs.Bootstraps.{known_arguments}
+use Rattle.class_code.specs.Types.{has_float}
+use Rattle.class_code.specs.Constants.{number_of, constant_of, descriptor_at, descriptor_named, dimensions_of}
+use Rattle.class_code.specs.Bootstraps.{known_arguments}
 
 -- an array of floats or doubles has its descriptor as name; in the name of any other class letters are no types
 abbrev pub is_float_array : List ℕ → Bool

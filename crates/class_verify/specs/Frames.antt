@@ -11,7 +11,7 @@ use Rattle.class_verify.specs.declared.kinds.Kind.TheVariants as kinds
 use Rattle.class_verify.specs.declared.frames.Limits.{Limits}
 use Rattle.class_verify.specs.declared.frames.Written.{Written}
 use Rattle.class_verify.specs.declared.shape.Shape.{Shape}
-use Rattle.class_verify.specs.Types.{parameter_kinds}
+use Rattle.class_code.specs.Types.{parameter_kinds}
 
 -- a Float or a Double
 abbrev pub is_float : FrameType → Bool

@@ -14,7 +14,7 @@ use Rattle.class_verify.specs.Kinds.{all_fit}
 use Rattle.class_verify.specs.Misfits.{BodyFits, is_result}
 use Rattle.class_verify.specs.Places.{next_place}
 use Rattle.class_verify.specs.Shapes.{shape_fits}
-use Rattle.class_verify.specs.Targets.{targets_by, falls, covers}
+use Rattle.class_code.specs.Control.{covers, falls, targets_by}
 
 -- An instruction begins at the pc, and a shape fits the one before it.
 abbrev pub IsMet : Body → ℕ → Shape → Type 0

@@ -1,7 +1,5 @@
 pub mod Bodies
-pub mod Bootstraps
 pub mod CheckFaults
-pub mod Constants
 pub mod Decoded
 pub mod Effects
 pub mod Floats
@@ -10,17 +8,13 @@ pub mod Groups
 pub mod Kinds
 pub mod Laws
 pub mod Locals
-pub mod Methods
 pub mod Misfits
-pub mod Parts
 pub mod Places
 pub mod Programs
 pub mod Ready
 pub mod Shapes
-pub mod Sites
 pub mod Stacks
 pub mod Stops
 pub mod Targets
-pub mod Types
 pub mod Verified
 pub mod Walks

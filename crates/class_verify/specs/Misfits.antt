@@ -18,8 +18,9 @@ use Rattle.class_verify.specs.Effects.{left}
 use Rattle.class_verify.specs.Floats.{uses_float}
 use Rattle.class_verify.specs.Frames.{frame_at}
 use Rattle.class_verify.specs.Places.{begins, next_place}
-use Rattle.class_verify.specs.Sites.{has_unknown_site}
-use Rattle.class_verify.specs.Targets.{targets_by, accepts, catches}
+use Rattle.class_code.specs.Sites.{has_unknown_site}
+use Rattle.class_code.specs.Control.{targets_by}
+use Rattle.class_verify.specs.Targets.{accepts, catches}
 
 -- a cause where a test fails
 abbrev pub unless : Bool → Cause → Option Cause

@@ -1,32 +1,13 @@
--- Where control goes from an instruction (JVMS 6.5), and what stands there.
-use Rattle.std.specs.Prelude.{ℕ, Bool, true, false, not, ◌&&◌, ◌||◌, nat_lt, nat_le, List, [], ◌∷◌, map, Option, Some, None}
-use Rattle.jvm_tables.specs.declared.code.Instr.{Instr}
-use Rattle.jvm_tables.specs.declared.instruction.Flow.{Flow}
-use Rattle.jvm_tables.specs.declared.instruction.Flow.TheVariants as flows
-use Rattle.jvm_tables.specs.Switches.{target}
-use Rattle.jvm_tables.specs.Switching.{cases_at}
+-- What stands where control goes from an instruction (JVMS 6.5).
+use Rattle.std.specs.Prelude.{ℕ, Bool, true, false, not, ◌&&◌, ◌||◌, List, [], ◌∷◌, Option, Some, None}
 use Rattle.class_model.specs.declared.attribute_forms.Handler.{Handler}
 use Rattle.class_verify.specs.declared.frames.Written.{Written}
 use Rattle.class_verify.specs.declared.kinds.Kind.{Kind}
 use Rattle.class_verify.specs.declared.shape.Shape.{Shape}
+use Rattle.class_code.specs.Control.{covers}
 use Rattle.class_verify.specs.Frames.{frame_at}
 use Rattle.class_verify.specs.Kinds.{is_reference, all_fit}
 use Rattle.class_verify.specs.Shapes.{shape_fits}
-
--- the targets: of a switch that of its default, and that of each key
-abbrev pub targets_by : Flow → List ℕ → Instr → List ℕ
-targets_by flows.Next code instr = []
-targets_by flows.Branch code instr = target instr.pc instr.first ∷ []
-targets_by flows.Jump code instr = target instr.pc instr.first ∷ []
-targets_by flows.Switch code instr = target instr.pc instr.first ∷ map (λ c. c.1) (cases_at code instr)
-targets_by flows.Return code instr = []
-targets_by flows.Throw code instr = []
-
--- control may go on to the next instruction
-abbrev pub falls : Flow → Bool
-falls flows.Next = true
-falls flows.Branch = true
-falls _ = false
 
 abbrev pub fits_written : Shape → Option Shape → Bool
 fits_written shape None = false
@@ -39,10 +20,6 @@ is_accepted shape (Some w) = fits_written shape w.shape
 
 abbrev pub accepts : List ℕ → List Written → Shape → ℕ → Bool
 accepts code frames shape pc = is_accepted shape (frame_at code frames pc)
-
--- a range of the exception table (JVMS 4.7.3)
-abbrev pub covers : ℕ → Handler → Bool
-covers pc h = nat_le h.start pc && nat_lt pc h.end
 
 -- one item, which is a reference
 abbrev pub is_thrown : List Kind → Bool

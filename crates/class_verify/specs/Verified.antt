@@ -18,34 +18,8 @@ use Rattle.class_verify.specs.declared.frames.Limits.{Limits}
 use Rattle.class_verify.specs.Bodies.{Body}
 use Rattle.class_verify.specs.Frames.{type_of, first_kinds, shape_of, frames_from}
 use Rattle.class_verify.specs.Misfits.{BodyFits, IsFirstMisfit}
-use Rattle.class_verify.specs.Types.{result_kind, has_float}
-
--- the parts of a Code attribute (JVMS 4.7.3)
-pub record CodeParts : Type 0 where
-  pub max_stack : ℕ
-  pub max_locals : ℕ
-  pub code : List ℕ
-  pub table : List Handler
-  pub attributes : List Attribute
-
-abbrev pub code_or : AttributeLayer → Option CodeParts → Option CodeParts
-code_or (Attribute-F.Code name max_stack max_locals code table attributes) later =
-    Some (record { max_stack = max_stack; max_locals = max_locals; code = code; table = table; attributes = attributes })
-code_or _ later = later
-
--- the code among attributes, which have at most one
-unfoldable pub code_in : List Attribute → Option CodeParts
-code_in [] = None
-code_in (a ∷ attributes) = code_or (out-Attribute a) (code_in attributes)
-
-abbrev pub frames_or : AttributeLayer → List StackFrame → List StackFrame
-frames_or (Attribute-F.StackMap name frames) later = frames
-frames_or _ later = later
-
--- the frames of the stack map among attributes, which have at most one
-unfoldable pub stack_map_in : List Attribute → List StackFrame
-stack_map_in [] = []
-stack_map_in (a ∷ attributes) = frames_or (out-Attribute a) (stack_map_in attributes)
+use Rattle.class_code.specs.Codes.{CodeParts, code_in, stack_map_in}
+use Rattle.class_code.specs.Types.{result_kind, has_float}
 
 abbrev pub limits_of : CodeParts → Limits
 limits_of c = record { stack = c.max_stack; locals = c.max_locals }

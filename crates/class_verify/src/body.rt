@@ -9,12 +9,14 @@ ghost use Rattle.class_verify.specs.Frames.{frame_at};
 ghost use Rattle.class_verify.specs.Misfits.{is_float_frame, ends_well, is_result};
 ghost use Rattle.class_verify.specs.Places.{begins};
 ghost use Rattle.class_verify.specs.Ready.{IsReady, plain};
-ghost use Rattle.class_verify.specs.Targets.{targets_by, accepts, is_accepted, fits_written, catches, covers, is_caught, catches_in, falls};
+ghost use Rattle.class_code.specs.Control.{falls, covers, targets_by};
+ghost use Rattle.class_verify.specs.Targets.{accepts, is_accepted, fits_written, catches, is_caught, catches_in};
 
 use crate::frames::{Limits, Written};
 use crate::locals::Locals;
 use crate::places::place_behind;
 use crate::shape::Shape;
+use class_code::{covers, target};
 use class_model::{Class, Handler};
 use jvm_tables::{Flow, Instr, OpRow, Operands, ValueKind, is_switch, switch_case, switch_len};
 use sqlite_items::Items;
@@ -46,12 +48,6 @@ pub(crate) struct Spot {
     pub shape: Shape,
 }
 
-fn target(instr: &Instr) -> usize
-    ensures { result ≡ target instr.now.pc instr.now.first }
-{
-    instr.pc.wrapping_add_signed(instr.first) as usize
-}
-
 fn is_result(result_kind: Option<ValueKind>, takes: Operands) -> bool
     ensures { result ≡ is_result result_kind takes }
 {
@@ -79,12 +75,6 @@ fn catches_in(locals: &Locals, wanted: &Option<Shape>) -> bool
         Some(wanted) => wanted.stack.is_thrown() && locals.fits(&wanted.locals),
         None => false,
     }
-}
-
-fn covers(pc: usize, handler: &Handler) -> bool
-    ensures { result ≡ covers pc handler.now }
-{
-    usize::from(handler.start) <= pc && pc < usize::from(handler.end)
 }
 
 impl Body<'_> {

@@ -2,16 +2,17 @@
 
 ghost use Rattle.std.specs.Prelude.{◌≡◌, ◌<◌, ◌^◌, ◌||◌, None, Some, IfOk, MatchBool, option_map, reverse};
 ghost use Rattle.jvm_tables.specs.Agreement.{names_local, increments};
-ghost use Rattle.class_verify.specs.Effects.{is_slots, used, stack_after, local_of, is_read, with_store, locals_after, left};
-ghost use Rattle.class_verify.specs.Constants.{use_of};
+ghost use Rattle.class_code.specs.Operands.{local_of};
+ghost use Rattle.class_verify.specs.Effects.{is_slots, used, stack_after, is_read, with_store, locals_after, left};
+ghost use Rattle.class_code.specs.Constants.{use_of};
 ghost use Rattle.class_verify.specs.Stacks.{below_values, with_values};
 
-use crate::constants::{Use, number_of, told_by_row};
 use crate::locals::Locals;
 use crate::shape::Shape;
 use crate::stack::Stack;
+use class_code::{Use, local_of, told_by_row};
 use class_model::Class;
-use jvm_tables::{Form, Instr, OpRow, Operands, ValueKind};
+use jvm_tables::{Instr, OpRow, Operands, ValueKind};
 use std::alloc::AllocError;
 
 fn is_slots(operands: Operands) -> bool
@@ -66,23 +67,6 @@ fn change_stack(
         stack.move_slots(row.operation)
     } else {
         use_values(class, row, instr, stack, uses)
-    }
-}
-
-fn names_its_local(form: Form) -> bool
-    ensures { result ≡ (names_local form || increments form) }
-{
-    matches!(form, Form::Local | Form::LocalIncrement)
-}
-
-fn local_of(row: &OpRow, instr: &Instr) -> usize
-    ensures local { result ≡ local_of row.now instr.now }
-    ensures small { result < 2 ^ 32 }
-{
-    if names_its_local(row.form) {
-        number_of(instr.first)
-    } else {
-        number_of(i32::from(row.implied))
     }
 }
 

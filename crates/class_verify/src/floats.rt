@@ -3,13 +3,14 @@
 ghost use Rattle.std.specs.Prelude.{◌≡◌, ◌==◌, ◌&&◌};
 ghost use Rattle.std.specs.List.{list_any};
 ghost use Rattle.class_model.specs.Constants.{text_at, constant_at, is_some_that};
-ghost use Rattle.class_verify.specs.Types.{has_float};
-ghost use Rattle.class_verify.specs.Constants.{descriptor_at, descriptor_named};
+ghost use Rattle.class_code.specs.Types.{has_float};
+ghost use Rattle.class_code.specs.Constants.{descriptor_at, descriptor_named};
 ghost use Rattle.class_verify.specs.Floats.{is_float_array, reference_has_float, is_float_load, is_float_constant, class_has_float, has_float_arguments, constant_has_float, makes_floats, uses_float};
 
-use crate::bootstraps::known_arguments;
-use crate::constants::{constant_of, descriptor_at, descriptor_named, dimensions_of, number_of};
-use crate::types::has_float;
+use class_code::{
+    constant_of, descriptor_at, descriptor_named, dimensions_of, has_float, known_arguments,
+    number_of,
+};
 use class_model::{Class, Constant, Pool};
 use jvm_tables::{ConstantUse, Instr, OpRow, Operation};
 

@@ -1,30 +1,24 @@
-//! The verification of code (JVMS 4.10.1) over kinds: int, long, reference and top. It stands on `class_index`,
-//! `class_model` and `jvm_tables`. The layers above rest on `ProgramOk`, whose classes all fit.
+//! The verification of code (JVMS 4.10.1) over kinds: int, long, reference and top. It stands on `class_code`,
+//! `class_index`, `class_model` and `jvm_tables`. The layers above rest on `ProgramOk`, whose classes all fit.
 #![tactic(auto)]
 
 mod body;
-mod bootstraps;
 mod cause;
-mod constants;
 mod effects;
 mod fault;
 mod floats;
 mod frames;
 mod kinds;
-mod lambdas;
 mod laws;
 mod locals;
 mod places;
 mod program_ok;
 mod shape;
-mod sites;
 mod stack;
-mod types;
 mod verification;
 mod walk;
 
 pub use cause::Cause;
-pub use constants::Use;
 pub use fault::VerifyFault;
 pub use floats::uses_float;
 pub use frames::{Limits, Written};
@@ -33,9 +27,7 @@ pub use laws::code_that_fits_is_safe;
 pub use locals::Locals;
 pub use program_ok::{CheckFault, ProgramOk};
 pub use shape::Shape;
-pub use sites::SiteKinds;
 pub use stack::Stack;
-pub use types::{Returned, has_float, kind_of, read_kinds};
 pub use verification::verify;
 
 #[cfg(test)]

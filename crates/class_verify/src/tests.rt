@@ -3,10 +3,9 @@
 mod rows;
 
 use crate::cause::Cause;
-use crate::constants::Use;
-use crate::sites::SiteKinds;
 use crate::verification::{self, code_misfit, code_of};
 use crate::walk::Buffers;
+use class_code::{SiteKinds, Use};
 use class_model::{Attribute, Class, Constant, FrameType, Handler, Member, Pool, Raw, StackFrame};
 use sqlite_items::Items;
 use std::alloc::{AllocError, Global};

@@ -7,41 +7,29 @@ ghost use Rattle.class_model.specs.Constants.{text_at};
 ghost use Rattle.class_model.specs.Shape.{Shaped, IsMethod, descriptor_text, name_text, is_static};
 ghost use Rattle.class_verify.specs.declared.fault.VerifyFault.TheVariants as verify_fault;
 ghost use Rattle.class_verify.specs.Frames.{type_of, own_kinds, first_kinds, shape_of, frames_from};
-ghost use Rattle.class_verify.specs.Methods.{parts};
+ghost use Rattle.class_code.specs.Codes.{parts, stack_map_in, code_in};
 ghost use Rattle.class_verify.specs.Misfits.{BodyFits, IsFirstMisfit};
 ghost use Rattle.class_verify.specs.Bodies.{first_point};
 ghost use Rattle.class_verify.specs.Walks.{IsWalked, IsLeastStray, earlier};
 ghost use Rattle.class_verify.specs.Ready.{IsReady, plain, seen};
-ghost use Rattle.class_verify.specs.Types.{result_kind};
-ghost use Rattle.class_verify.specs.Verified.{CodeParts, code_or, frames_or, code_in, stack_map_in, fault_of, body_of, CodeFits, MethodFits, Fits, IsMethodMisfit, IsNamed, IsRefusal, IsMisfitIn, IsMisfitOf};
+ghost use Rattle.class_code.specs.Types.{result_kind};
+ghost use Rattle.class_verify.specs.Verified.{fault_of, body_of, CodeFits, MethodFits, Fits, IsMethodMisfit, IsNamed, IsRefusal, IsMisfitIn, IsMisfitOf};
 
 use crate::body::{Body, Spot};
 use crate::cause::Cause;
-use crate::constants::Use;
 use crate::fault::VerifyFault;
 use crate::frames::{Limits, Written, frames_of, shape_of, types_of};
 use crate::locals::Locals;
 use crate::places::{framed, marks_of};
 use crate::shape::Shape;
-use crate::sites::SiteKinds;
 use crate::stack::Stack;
-use crate::types::{has_float, read_kinds};
 use crate::walk::{Buffers, least_stray, walk};
+use class_code::{CodeView, SiteKinds, Use, code_of, has_float, read_kinds, stack_map};
 use class_index::Index;
 use class_model::{Attribute, Class, Handler, Member, MethodId, Name, Pool, StackFrame};
 use jvm_tables::ValueKind;
 use sqlite_items::Items;
 use std::alloc::{AllocError, Global};
-
-/// The parts of the code of a method.
-#[derive(Clone, Copy, Drop)]
-pub(crate) struct CodeView<'a> {
-    pub max_stack: u16,
-    pub max_locals: u16,
-    pub code: &'a [u8],
-    pub table: &'a [Handler],
-    pub attributes: &'a [Attribute],
-}
 
 fn text_of(pool: &Pool, number: u16) -> &[u8]
     ensures { result.now ≡ unwrap_or (text_at pool.now number) [] }
@@ -50,65 +38,6 @@ fn text_of(pool: &Pool, number: u16) -> &[u8]
         Some(text) => text,
         None => &[],
     }
-}
-
-fn code_view(attribute: &Attribute) -> Option<CodeView<'_>>
-    ensures { MatchOption result ((later : Option CodeParts) → code_or (out-Attribute attribute.now) later ≡ later)
-        (λ view. (later : Option CodeParts) → code_or (out-Attribute attribute.now) later ≡ Some (parts view)) }
-{
-    match attribute {
-        Attribute::Code {
-            max_stack,
-            max_locals,
-            code,
-            table,
-            attributes,
-            ..
-        } => Some(CodeView {
-            max_stack: *max_stack,
-            max_locals: *max_locals,
-            code: code.as_slice(),
-            table: table.as_slice(),
-            attributes: attributes.as_slice(),
-        }),
-        _ => None,
-    }
-}
-
-/// The code among attributes.
-#[tactic(auto, using(crate::proofs::Methods::code_step, crate::proofs::Methods::code_end))]
-pub(crate) fn code_of(attributes: &[Attribute]) -> Option<CodeView<'_>>
-    ensures { option_map parts result ≡ code_in attributes.now }
-{
-    for attribute in attributes {
-        if let Some(view) = code_view(attribute) {
-            return Some(view);
-        }
-    }
-    None
-}
-
-fn frames_view(attribute: &Attribute) -> Option<&[StackFrame]>
-    ensures { MatchOption result ((later : List StackFrame) → frames_or (out-Attribute attribute.now) later ≡ later)
-        (λ frames. (later : List StackFrame) → frames_or (out-Attribute attribute.now) later ≡ frames.now) }
-{
-    match attribute {
-        Attribute::StackMap { frames, .. } => Some(frames.as_slice()),
-        _ => None,
-    }
-}
-
-/// The frames of the stack map among attributes.
-#[tactic(auto, using(crate::proofs::Methods::map_step, crate::proofs::Methods::map_end))]
-pub(crate) fn stack_map(attributes: &[Attribute]) -> &[StackFrame]
-    ensures { result.now ≡ stack_map_in attributes.now }
-{
-    for attribute in attributes {
-        if let Some(frames) = frames_view(attribute) {
-            return frames;
-        }
-    }
-    &[]
 }
 
 /// The kinds of the locals before the parameters.

@@ -12,18 +12,17 @@ ghost use Rattle.class_verify.specs.Places.{begins};
 ghost use Rattle.class_verify.specs.Ready.{IsReady, plain, seen};
 ghost use Rattle.class_verify.specs.Stops.{StopsBy};
 ghost use Rattle.class_verify.specs.declared.cause.Stop.TheVariants.{Misfit};
-ghost use Rattle.class_verify.specs.Targets.{falls};
+ghost use Rattle.class_code.specs.Control.{falls};
 ghost use Rattle.class_verify.specs.Walks.{Moves, IsWalked, IsLeastStray, least_of};
 
 use crate::body::{Body, Spot};
 use crate::cause::{Cause, Stop};
-use crate::constants::Use;
 use crate::effects::leave;
 use crate::floats::uses_float;
 use crate::frames::Written;
 use crate::places::place_behind;
 use crate::shape::Shape;
-use crate::sites::SiteKinds;
+use class_code::{SiteKinds, Use};
 use jvm_tables::{CodeFault, Flow, Instr, OpRow, decode, op_row};
 use std::alloc::AllocError;
 

@@ -1,5 +1,5 @@
 use super::pools::{Build, Entry, Method, instr};
-use crate::sites::SiteKinds;
+use class_code::SiteKinds;
 use class_model::Class;
 use jvm_tables::op_row;
 use std::alloc::{AllocError, Global};

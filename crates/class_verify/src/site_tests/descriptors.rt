@@ -1,4 +1,4 @@
-use crate::types::{has_float, kind_of, read_kinds};
+use class_code::{has_float, kind_of, read_kinds};
 use jvm_tables::ValueKind;
 use std::alloc::{AllocError, Global};
 use std::process::Abort;

@@ -1,6 +1,6 @@
 use super::call_sites::{METAFACTORY, is_unknown};
 use super::pools::{Build, Entry};
-use crate::sites::SiteKinds;
+use class_code::SiteKinds;
 use std::alloc::{AllocError, Global};
 use std::process::Abort;
 use std::test::Fail;

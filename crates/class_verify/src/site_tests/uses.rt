@@ -1,5 +1,5 @@
 use super::pools::{Build, Entry, instr};
-use crate::constants::Use;
+use class_code::Use;
 use jvm_tables::ValueKind::{Int, Long, Reference};
 use jvm_tables::{ValueKind, op_row};
 use std::alloc::{AllocError, Global};

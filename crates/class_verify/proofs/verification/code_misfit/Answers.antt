@@ -1,7 +1,7 @@
 use Rattle.std.proofs.Common.{sym, ap, ◌∙◌}
-use Rattle.class_verify.specs.Methods.{parts}
+use Rattle.class_code.specs.Codes.{parts}
 use Rattle.class_verify.specs.Ready.{plain}
-use Rattle.class_verify.specs.Types.{has_float}
+use Rattle.class_code.specs.Types.{has_float}
 use Rattle.class_verify.proofs.Verifying.{misfit_of_descriptor, judged_ok}
 use Rattle.class_verify.proofs.verification.code_misfit.Goals as goal
 

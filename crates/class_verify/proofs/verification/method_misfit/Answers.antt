@@ -1,7 +1,6 @@
 use Rattle.std.proofs.Common.{◌≡◌, Some, sym, ap, ◌∙◌}
 use Rattle.std.specs.Prelude.{option_map}
-use Rattle.class_verify.specs.Methods.{parts}
-use Rattle.class_verify.specs.Verified.{code_in}
+use Rattle.class_code.specs.Codes.{parts, code_in}
 use Rattle.class_verify.proofs.Sizes.{code_in-IsSized}
 use Rattle.class_verify.proofs.Verifying.{fits_without}
 use Rattle.class_verify.proofs.verification.method_misfit.Goals as goal

@@ -1,0 +1,357 @@
+//! What instructions take and give where their constants say it (JVMS 6.5, 4.4).
+
+ghost use Rattle.std.specs.Prelude.{◌≡◌, ◌==◌, [], Some, IfOk, IfSome, OnOk, option_map, option_and_then, option_copied, replicate};
+ghost use Rattle.std.specs.List.{list_any};
+ghost use Rattle.jvm_tables.specs.declared.code.Instr.{Instr};
+ghost use Rattle.jvm_tables.specs.declared.instruction.ValueKind.TheVariants.{Int};
+ghost use Rattle.jvm_tables.specs.Agreement.{uses_constant};
+ghost use Rattle.class_model.specs.declared.class_file.Class.{Class};
+ghost use Rattle.class_code.specs.Types.{kind_of, signature_of};
+ghost use Rattle.class_code.specs.Constants.{number_of, constant_of, descriptor_at, name_at, is_bracket, dimensions_of, may_name, tags, descriptor_named, loaded, long_loaded, names_class, pushes, field_use, call_use, by_constant, said, values, use_of, if_told, use_if_told};
+
+use crate::types::{kind_of, push_some, read_kinds};
+use class_model::{Class, Constant, Pool};
+use jvm_tables::{ConstantUse, Instr, OpRow, Operands, Operation, ValueKind};
+use std::alloc::{AllocError, Global};
+
+/// The values that an instruction takes off the operand stack and those that it puts there, the last on top. It is
+/// used again for one instruction after another.
+#[derive(Debug, Drop)]
+pub struct Use {
+    pub takes: Vec<ValueKind>,
+    pub gives: Vec<ValueKind>,
+}
+
+/// An operand as a number of a constant or of dimensions.
+pub fn number_of(operand: i32) -> usize
+    ensures { result ≡ number_of operand }
+{
+    if operand < 0 { 0 } else { operand as usize }
+}
+
+/// The constant that an instruction names by its first operand.
+pub fn constant_of<'a>(class: &'a Class, instr: &Instr) -> Option<&'a Constant>
+    ensures { option_copied result ≡ constant_of class.now instr.now }
+{
+    let number = number_of(instr.first);
+    if number == 0 {
+        return None;
+    }
+    class.pool.constants.get(number - 1)
+}
+
+/// The descriptor of the name and type of a number.
+#[tactic(auto, unfolding(crate::specs::Constants::descriptor_at))]
+pub fn descriptor_at(pool: &Pool, number: u16) -> Option<&[u8]>
+    ensures { option_copied result ≡ descriptor_at pool.now number }
+{
+    match pool.constant(number) {
+        Some(Constant::NameType { descriptor, .. }) => pool.text(*descriptor),
+        _ => None,
+    }
+}
+
+/// The name of the name and type of a number.
+#[tactic(auto, unfolding(crate::specs::Constants::name_at))]
+pub fn name_at(pool: &Pool, number: u16) -> Option<&[u8]>
+    ensures { option_copied result ≡ name_at pool.now number }
+{
+    match pool.constant(number) {
+        Some(Constant::NameType { name, .. }) => pool.text(*name),
+        _ => None,
+    }
+}
+
+fn is_bracket(byte: u8) -> bool
+    ensures { result ≡ is_bracket byte }
+{
+    byte == b'['
+}
+
+/// The dimensions of a class by its name, which for an array is its descriptor.
+pub fn dimensions_of(name: &[u8]) -> usize
+    ensures { result ≡ dimensions_of name.now }
+{
+    name.iter().take_while(|byte| is_bracket(**byte)).count()
+}
+
+fn may_name(operation: Operation, made: usize, name: &[u8]) -> bool
+    ensures { result ≡ may_name operation made name.now }
+{
+    match operation {
+        Operation::New => dimensions_of(name) == 0,
+        Operation::NewReferenceArray => dimensions_of(name) <= 254,
+        Operation::NewMultiArray => made <= dimensions_of(name),
+        _ => true,
+    }
+}
+
+fn may_have(named: ConstantUse, tag: u8) -> bool
+    ensures { result ≡ list_any (λ t. t == tag) (tags named) }
+{
+    match named {
+        ConstantUse::Field => tag == 9,
+        ConstantUse::Method => tag == 10,
+        ConstantUse::AnyMethod => tag == 10 || tag == 11,
+        ConstantUse::InterfaceMethod => tag == 11,
+        _ => false,
+    }
+}
+
+/// The descriptor of the member or the call site that a constant is, where the instruction may name it.
+pub fn descriptor_named<'a>(
+    named: ConstantUse,
+    pool: &'a Pool,
+    constant: &Constant,
+) -> Option<&'a [u8]>
+    ensures { option_copied result ≡ descriptor_named named pool.now constant.now }
+{
+    match constant {
+        Constant::Ref { tag, name_type, .. } => {
+            if may_have(named, *tag) {
+                descriptor_at(pool, *name_type)
+            } else {
+                None
+            }
+        }
+        Constant::InvokeDynamic { name_type, .. } => match named {
+            ConstantUse::CallSite => descriptor_at(pool, *name_type),
+            _ => None,
+        },
+        _ => None,
+    }
+}
+
+fn loaded(constant: &Constant) -> Option<ValueKind>
+    ensures { result ≡ loaded constant.now }
+{
+    match constant {
+        Constant::Integer(_) => Some(ValueKind::Int),
+        Constant::Text(_)
+        | Constant::Class(_)
+        | Constant::Handle { .. }
+        | Constant::MethodType(_) => Some(ValueKind::Reference),
+        _ => None,
+    }
+}
+
+fn long_loaded(constant: &Constant) -> Option<ValueKind>
+    ensures { result ≡ long_loaded constant.now }
+{
+    match constant {
+        Constant::Long(_) => Some(ValueKind::Long),
+        _ => None,
+    }
+}
+
+fn names_class(operation: Operation, made: usize, pool: &Pool, constant: &Constant) -> bool
+    ensures { result ≡ names_class operation made pool.now constant.now }
+{
+    match constant {
+        Constant::Class(name) => match pool.text(*name) {
+            Some(text) => may_name(operation, made, text),
+            None => false,
+        },
+        _ => false,
+    }
+}
+
+fn put_loaded(loaded: Option<ValueKind>, gives: &mut Vec<ValueKind>) -> Result<bool, AllocError>
+    requires { gives.old.items ≡ [] }
+    ensures { IfOk result (λ told. use_if_told told [] gives.new.items ≡ option_map pushes loaded) }
+{
+    match loaded {
+        Some(kind) => {
+            gives.push(kind)?;
+            Ok(true)
+        }
+        None => Ok(false),
+    }
+}
+
+fn put_field(
+    descriptor: Option<&[u8]>,
+    takes: &mut Vec<ValueKind>,
+    gives: &mut Vec<ValueKind>,
+) -> Result<bool, AllocError>
+    requires takes { takes.old.items ≡ [] }
+    requires gives { gives.old.items ≡ [] }
+    ensures { IfOk result (λ told. use_if_told told takes.new.items gives.new.items
+        ≡ option_map field_use (option_and_then kind_of (option_copied descriptor.entry))) }
+{
+    let Some(descriptor) = descriptor else {
+        return Ok(false);
+    };
+    match kind_of(descriptor) {
+        Some(kind) => {
+            takes.push(kind)?;
+            gives.push(kind)?;
+            Ok(true)
+        }
+        None => Ok(false),
+    }
+}
+
+fn put_call(
+    descriptor: Option<&[u8]>,
+    takes: &mut Vec<ValueKind>,
+    gives: &mut Vec<ValueKind>,
+) -> Result<bool, AllocError>
+    requires takes { takes.old.items ≡ [] }
+    requires gives { gives.old.items ≡ [] }
+    ensures { IfOk result (λ told. use_if_told told takes.new.items gives.new.items
+        ≡ option_map call_use (option_and_then signature_of (option_copied descriptor.entry))) }
+{
+    let Some(descriptor) = descriptor else {
+        return Ok(false);
+    };
+    match read_kinds(descriptor, takes)? {
+        Some(returned) => {
+            push_some(gives, returned.kind())?;
+            Ok(true)
+        }
+        None => Ok(false),
+    }
+}
+
+/// What the constant says of the values.
+fn put_said(
+    row: &OpRow,
+    made: usize,
+    pool: &Pool,
+    constant: &Constant,
+    takes: &mut Vec<ValueKind>,
+    gives: &mut Vec<ValueKind>,
+) -> Result<bool, AllocError>
+    requires takes { takes.old.items ≡ [] }
+    requires gives { gives.old.items ≡ [] }
+    ensures { IfOk result (λ told. use_if_told told takes.new.items gives.new.items
+        ≡ by_constant row.now.constant row.now.operation made pool.now constant.now) }
+{
+    match row.constant {
+        ConstantUse::Nothing => Ok(true),
+        ConstantUse::Loadable => put_loaded(loaded(constant), gives),
+        ConstantUse::LoadableLong => put_loaded(long_loaded(constant), gives),
+        ConstantUse::Class => Ok(names_class(row.operation, made, pool, constant)),
+        ConstantUse::Field => put_field(
+            descriptor_named(ConstantUse::Field, pool, constant),
+            takes,
+            gives,
+        ),
+        named => put_call(descriptor_named(named, pool, constant), takes, gives),
+    }
+}
+
+fn put_ints(kinds: &mut Vec<ValueKind>, made: usize) -> Result<(), AllocError>
+    requires { kinds.old.items ≡ [] }
+    ensures { OnOk result (kinds.new.items ≡ replicate made Int) }
+{
+    for _ in 0..made {
+        kinds.push(ValueKind::Int)?;
+    }
+    Ok(())
+}
+
+/// The values that operands stand for, in place of what the constant says.
+fn put_values(
+    operands: Operands,
+    made: usize,
+    kinds: &mut Vec<ValueKind>,
+) -> Result<bool, AllocError>
+    ensures { IfOk result (λ told. if_told told kinds.new.items ≡ values operands kinds.old.items made) }
+{
+    match operands {
+        Operands::ByConstant => Ok(true),
+        Operands::ReferenceByConstant => {
+            kinds.insert(0, ValueKind::Reference)?;
+            Ok(true)
+        }
+        Operands::IntForEachDimension => {
+            kinds.clear();
+            put_ints(kinds, made)?;
+            Ok(true)
+        }
+        _ => match operands.kinds() {
+            Some(told) => {
+                kinds.clear();
+                kinds.extend_from_slice(told)?;
+                Ok(true)
+            }
+            None => Ok(false),
+        },
+    }
+}
+
+fn uses_constant(named: ConstantUse) -> bool
+    ensures { result ≡ uses_constant named }
+{
+    !matches!(named, ConstantUse::Nothing)
+}
+
+/// What an instruction takes and gives, where its row alone tells both.
+#[tactic(auto, using(crate::proofs::Uses::use_by_row))]
+pub fn told_by_row(row: &OpRow) -> Option<(&'static [ValueKind], &'static [ValueKind])>
+    ensures { IfSome result (λ told. (class : Class) (instr : Instr) → use_of class row.now instr ≡ Some (record { takes = told.0.now; gives = told.1.now })) }
+{
+    if uses_constant(row.constant) {
+        return None;
+    }
+    let takes = row.takes.kinds()?;
+    let gives = row.gives.kinds()?;
+    Some((takes, gives))
+}
+
+impl Use {
+    /// Empty buffers.
+    pub fn new(alloc: Global) -> Use {
+        Use {
+            takes: Vec::new(alloc),
+            gives: Vec::new(alloc),
+        }
+    }
+
+    /// What the constant says of the values, where the instruction names one.
+    fn say(
+        &mut self,
+        class: &Class,
+        row: &OpRow,
+        instr: &Instr,
+        made: usize,
+    ) -> Result<bool, AllocError>
+        requires { made ≡ number_of instr.now.second }
+        ensures { IfOk result (λ told. use_if_told told self.new.takes.items self.new.gives.items ≡ said class.now row.now instr.now) }
+    {
+        self.takes.clear();
+        self.gives.clear();
+        if !uses_constant(row.constant) {
+            return Ok(true);
+        }
+        match constant_of(class, instr) {
+            Some(constant) => put_said(
+                row,
+                made,
+                &class.pool,
+                constant,
+                &mut self.takes,
+                &mut self.gives,
+            ),
+            None => Ok(false),
+        }
+    }
+
+    /// Becomes what an instruction takes and gives. False where the instruction's constant is none that it may name,
+    /// and where neither its row nor a constant tells the values; then the buffers hold nothing of use.
+    #[tactic(auto, unfolding(crate::specs::Constants::use_of))]
+    pub fn fill(&mut self, class: &Class, row: &OpRow, instr: &Instr) -> Result<bool, AllocError>
+        ensures { IfOk result (λ told. use_if_told told self.new.takes.items self.new.gives.items ≡ use_of class.now row.now instr.now) }
+    {
+        let made = number_of(instr.second);
+        if !self.say(class, row, instr, made)? {
+            return Ok(false);
+        }
+        if !put_values(row.takes, made, &mut self.takes)? {
+            return Ok(false);
+        }
+        put_values(row.gives, made, &mut self.gives)
+    }
+}

@@ -1,0 +1,24 @@
+//! What the code of a method says by itself: its Code attribute, what descriptors say of kinds, what instructions name,
+//! where control goes, and the call sites of bootstrap methods that are known. It stands on `class_model` and
+//! `jvm_tables`. The layers above rest on its public calls, each of which equals a definition over the class's data.
+#![tactic(auto)]
+
+mod bootstraps;
+mod code;
+mod constants;
+mod control;
+mod lambdas;
+mod operand;
+mod sites;
+mod types;
+
+pub use bootstraps::{bootstrap_at, known_arguments};
+pub use code::{CodeView, code_of, stack_map};
+pub use constants::{
+    Use, constant_of, descriptor_at, descriptor_named, dimensions_of, name_at, number_of,
+    told_by_row,
+};
+pub use control::{covers, target};
+pub use operand::local_of;
+pub use sites::SiteKinds;
+pub use types::{Returned, has_float, kind_of, read_kinds};

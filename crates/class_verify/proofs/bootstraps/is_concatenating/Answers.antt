@@ -1,4 +1,0 @@
-use Rattle.class_verify.proofs.bootstraps.is_concatenating.Goals as goal
-
-pub returns : goal.returns
-returns c = c.is_bootstrap_by.ensures

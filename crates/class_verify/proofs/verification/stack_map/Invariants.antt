@@ -1,6 +1,0 @@
-use Rattle.std.proofs.Common.{◌≡◌, drop}
-use Rattle.class_verify.specs.Verified.{stack_map_in}
-use Rattle.class_verify.proofs.verification.stack_map.Given as goal
-
-abbrev pub invariant-loop-attribute : goal.invariant-loop-attribute
-invariant-loop-attribute l = stack_map_in (drop l.attribute-index l.attributes) ≡ stack_map_in l.attributes
