@@ -16,8 +16,6 @@ mod pushed;
 mod reading;
 mod switches;
 mod switching;
-#[cfg(test)]
-mod tests;
 
 pub use code::{CodeFault, Instr};
 pub use decoding::decode;
