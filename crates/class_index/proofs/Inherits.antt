@@ -1,5 +1,5 @@
 -- What resolution and selection find is a member of the class or of what is above it.
-use Rattle.std.proofs.Common.{◌≡◌, ℕ, ◌+◌, ◌-◌, ◌<◌, ◌≤◌, Bool, true, false, eqb, List, [], ◌∷◌, length, Option, Some, None, option_map, option_and_then, slice_get, refl, sym, ◌∙◌, ap, subst, arith, inl, inr}
+use Rattle.std.proofs.Common.{◌||◌, ◌≡◌, ℕ, ◌+◌, ◌-◌, ◌<◌, ◌≤◌, Bool, true, false, eqb, List, [], ◌∷◌, length, Option, Some, None, option_map, option_and_then, slice_get, refl, sym, ◌∙◌, ap, subst, arith, inl, inr}
 use Rattle.std.specs.Prelude.{codes, nat_lt, IsSome}
 use Rattle.std.proofs.lemmas.Bool.{cases_Bool, ltb-true, ltb-false, le-ltb, or_cases, or_left, or_right, eq-eqb, eqb-true}
 use Rattle.std.proofs.lemmas.Option.{slice_get_within, slice_get-map, some_pair_parts}
@@ -22,7 +22,7 @@ use Rattle.class_index.specs.Members.{native_method, member_from, wanted_method}
 use Rattle.class_index.specs.Lookups.{found_at, nearest, in_interface, most_specific, resolved, field_at, first_field}
 use Rattle.class_index.specs.Resolution.{member_of, above, resolve_field, owner_place, method_through, resolve_method}
 use Rattle.class_index.specs.Subtyping.{IsSubtype, class_name}
-use Rattle.class_index.specs.Declarations.{Declaration, declaration, method_at, IsMethodId, field_named}
+use Rattle.class_index.specs.Declarations.{Declaration, declaration, method_at, IsMethodId, field_named, IsFieldId}
 use Rattle.class_index.specs.Selection.{the_only, or_only, overriding, select}
 use Rattle.class_index.specs.Inherited.{IsAtOrAbove, method_owner, IsInheritedField, IsInheritedMethod, IsOverride, IsSelection}
 use Rattle.class_index.proofs.Listings.{mapped, chained, member_at, external_at, position_at}
@@ -31,13 +31,13 @@ use Rattle.class_index.proofs.Climbs.{IsUp, CanOverride, nearest_at, overriding_
 use Rattle.class_index.proofs.PlaceLemmas.{place_within}
 use Rattle.class_index.proofs.Questions.{length-all_of}
 
-place_of_id : (classes : List Outline) (p : ℕ) → place classes (id_of (length classes) p) ≡ p
+pub place_of_id : (classes : List Outline) (p : ℕ) → place classes (id_of (length classes) p) ≡ p
 place_of_id classes p = elim (cases_Bool (nat_lt p (length classes))) [
   | inl t ↦ rw t refl
   | inr f ↦ let past : length classes ≤ p = ltb-false p (length classes) f in rw f (omega arith)
 ]
 
-id_is_class : (classes : List Outline) (p : ℕ) → p < length (all_of classes) → IsClassId classes (id_of (length classes) p)
+pub id_is_class : (classes : List Outline) (p : ℕ) → p < length (all_of classes) → IsClassId classes (id_of (length classes) p)
 id_is_class classes p h = elim (cases_Bool (nat_lt p (length classes))) [
   | inl t ↦ rw t (ltb-true p (length classes) t)
   | inr f ↦
@@ -264,13 +264,25 @@ overriding_found classes r receiver id e =
 pub selection_is : (classes : List Outline) (resolved id : MemberId) (receiver : ClassId) → select classes resolved receiver ≡ selected.Found id → IsSelection classes resolved receiver id
 selection_is classes resolved id receiver e = by_method (method_at classes resolved) refl
   where
-    by_private : (r : Declaration) (b : Bool) → method_at classes resolved ≡ Some r → r.method.is_private ≡ b → IsSelection classes resolved receiver id
-    by_private r true m t =
+    itself : (r : Declaration) → method_at classes resolved ≡ Some r → (r.method.is_private || r.method.is_of_arrays) ≡ true → id ≡ resolved
+    itself r m t =
         let is : selected.Found resolved ≡ selected.Found id = rw (m, t) at e in
-        let same : id ≡ resolved = cc in
-        record { method = r; declared = m; is = inl (same, t) }
-    by_private r false m f = record { method = r; declared = m; is = inr (overriding_found classes r receiver id (rw (m, f) at e)) }
+        cc
+
+    by_arrays : (r : Declaration) (b : Bool) → method_at classes resolved ≡ Some r → r.method.is_private ≡ false → r.method.is_of_arrays ≡ b → IsSelection classes resolved receiver id
+    by_arrays r true m p t = record { method = r; declared = m; is = inl (itself r m (rw (p, t) refl), inr t) }
+    by_arrays r false m p f = record { method = r; declared = m; is = inr (overriding_found classes r receiver id (rw (m, p, f) at e)) }
+
+    by_private : (r : Declaration) (b : Bool) → method_at classes resolved ≡ Some r → r.method.is_private ≡ b → IsSelection classes resolved receiver id
+    by_private r true m t = record { method = r; declared = m; is = inl (itself r m (rw t refl), inl t) }
+    by_private r false m f = by_arrays r r.method.is_of_arrays m f refl
 
     by_method : (o : Option Declaration) → method_at classes resolved ≡ o → IsSelection classes resolved receiver id
     by_method None m = let no : selected.Abstract ≡ selected.Found id = rw m at e in cc
     by_method (Some r) m = by_private r r.method.is_private m refl
+
+-- a field that is found is there
+pub resolved_field_there : (classes : List Outline) (owner name descriptor : List ℕ) (id : MemberId) → Some id ≡ resolve_field classes owner name descriptor → IsFieldId classes id
+resolved_field_there classes owner name descriptor id e =
+    let is = field_inherited classes owner name descriptor id (sym e) in
+    subst (λ (o : Option MemberOutline). IsSome o) (sym is.declared) refl

@@ -46,8 +46,8 @@ pub record IsOverride (classes : List Outline) (resolved : Declaration) (receive
   pub is_abstract : method.method.is_abstract ≡ false
   pub above : IsSubtype classes receiver id.class
 
--- the resolved method itself, which is private, or what overrides it
+-- the resolved method itself, which is private or one of arrays alone, or what overrides it
 pub record IsSelection (classes : List Outline) (resolved : MemberId) (receiver : ClassId) (id : MemberId) : Type 0 where
   pub method : Declaration
   pub declared : method_at classes resolved ≡ Some method
-  pub is : ((id ≡ resolved) × (method.method.is_private ≡ true)) ⊎ IsOverride classes method receiver id
+  pub is : ((id ≡ resolved) × ((method.method.is_private ≡ true) ⊎ (method.method.is_of_arrays ≡ true))) ⊎ IsOverride classes method receiver id

@@ -1,9 +1,11 @@
 -- Fields and methods that classes declare.
-use Rattle.std.specs.Prelude.{ℕ, ◌+◌, ◌-◌, ◌^◌, ◌<◌, nat_lt, Bool, true, false, ◌&&◌, ◌||◌, List, [], ◌∷◌, length, bytes_eq, slice_get, Option, Some, None, option_map, option_and_then, if◌then◌else◌}
-use Rattle.class_model.specs.Shape.{has_flag, is_static, is_abstract}
+use Rattle.std.specs.Prelude.{ℕ, ◌+◌, ◌-◌, ◌^◌, ◌<◌, nat_lt, Bool, true, false, not, ◌&&◌, ◌||◌, List, [], ◌∷◌, length, bytes_eq, slice_get, Option, Some, None, option_map, option_and_then, if◌then◌else◌}
+use Rattle.class_model.specs.Shape.{has_flag, is_static, is_abstract, is_native}
 use Rattle.jvm_tables.specs.Externals.{External, externals}
 use Rattle.jvm_tables.specs.Externals as external
 use Rattle.jvm_tables.specs.Natives.{Native, native_of}
+use Rattle.jvm_tables.specs.declared.externals.Family.{Family}
+use Rattle.jvm_tables.specs.declared.externals.Family.TheVariants as families
 use Rattle.class_index.specs.declared.outline.Outline.{Outline}
 use Rattle.class_index.specs.declared.outline.MemberOutline.{MemberOutline}
 use Rattle.class_index.specs.declared.members.Method.{Method}
@@ -22,14 +24,38 @@ member_from at name descriptor (m ∷ members) =
 -- JVMS 4.6
 abbrev pub method_of : ℕ × ℕ → Method
 method_of found =
-    record { at = found.0; is_private = has_flag 0x0002 found.1; is_static = is_static found.1; is_abstract = is_abstract found.1 }
+    record {
+      at = found.0;
+      is_private = has_flag 0x0002 found.1;
+      is_static = is_static found.1;
+      is_abstract = is_abstract found.1;
+      is_native = is_native found.1;
+      is_of_arrays = false;
+    }
+
+abbrev pub in_arrays : Family → Bool
+in_arrays families.Arrays = true
+in_arrays _ = false
 
 abbrev pub native_method : ℕ × Native → Method
-native_method found = record { at = found.0; is_private = false; is_static = found.1.is_static; is_abstract = false }
+native_method found =
+    record {
+      at = found.0;
+      is_private = false;
+      is_static = found.1.is_static;
+      is_abstract = false;
+      is_native = true;
+      is_of_arrays = in_arrays found.1.family;
+    }
 
 -- the abstract method of an external interface is told by the number after the last native
 abbrev pub abstract_method : Method
-abstract_method = record { at = 118; is_private = false; is_static = false; is_abstract = true }
+abstract_method =
+    record { at = 118; is_private = false; is_static = false; is_abstract = true; is_native = false; is_of_arrays = false }
+
+-- JVMS 4.7.3
+abbrev pub has_code : Method → Bool
+has_code m = not (m.is_abstract || m.is_native)
 
 abbrev pub is_abstract_of : List ℕ → List ℕ → Option external.Method → Bool
 is_abstract_of name descriptor None = false

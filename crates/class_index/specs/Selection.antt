@@ -1,5 +1,5 @@
 -- Selection of methods (JVMS 5.4.6).
-use Rattle.std.specs.Prelude.{ℕ, List, length, Option, Some, None, if◌then◌else◌}
+use Rattle.std.specs.Prelude.{ℕ, ◌||◌, List, length, Option, Some, None, if◌then◌else◌}
 use Rattle.class_model.specs.declared.identifiers.ClassId.{ClassId}
 use Rattle.class_model.specs.declared.identifiers.MemberId.{MemberId}
 use Rattle.class_index.specs.declared.outline.Outline.{Outline}
@@ -37,14 +37,15 @@ overriding own all supers above name descriptor place =
     or_only own (nearest (wanted_method own all name descriptor Overriding) supers (length all) place)
     (most_specific (in_interface own all name descriptor) above (above place))
 
--- what is selected for a resolved method and the class of the receiver
+-- What is selected for a resolved method and the class of the receiver. A private method is itself selected, and so is
+-- a method that arrays alone have.
 abbrev pub select : List Outline → MemberId → ClassId → Selected
 select classes resolved receiver = by_method (method_at classes resolved)
   where
     by_method : Option Declaration → Selected
     by_method None = selected.Abstract
     by_method (Some m) =
-        if m.method.is_private then selected.Found resolved
+        if m.method.is_private || m.method.is_of_arrays then selected.Found resolved
         else
         overriding (length classes) (all_of classes) (supers (all_of classes)) (above (all_of classes)) m.name m.descriptor
         (place classes receiver)

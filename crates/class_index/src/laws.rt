@@ -39,7 +39,7 @@ pub fn resolved_methods_are_inherited()
     ensures { (classes : List Outline) (owner name descriptor : List ℕ) (id : MemberId) → resolve_method classes owner name descriptor ≡ Some id → IsInheritedMethod classes owner name descriptor id }
 {}
 
-/// A method that is selected is the resolved one, which is private, or it has its name and descriptor, is one of the
+/// A method that is selected is the resolved one, which is private or one of arrays alone, or it has its name and descriptor, is one of the
 /// receiver or of one of the receiver's supers or superinterfaces, and is neither private nor static nor abstract.
 pub fn selected_methods_override()
     ensures { (classes : List Outline) (resolved id : MemberId) (receiver : ClassId) → select classes resolved receiver ≡ selected.Found id → IsSelection classes resolved receiver id }

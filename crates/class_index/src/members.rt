@@ -5,11 +5,13 @@ ghost use Rattle.class_model.specs.Shape.{has_flag};
 ghost use Rattle.std.specs.List.{All};
 ghost use Rattle.jvm_tables.specs.Externals.{externals, said, method_said};
 ghost use Rattle.jvm_tables.specs.Natives.{said as native_said};
-ghost use Rattle.class_index.specs.Members.{is_named, member_from, method_of, outer_method, native_method, abstract_method, declared, wanted_method, HasFewMembers, is_abstract_of};
+ghost use Rattle.class_index.specs.Members.{is_named, member_from, method_of, outer_method, in_arrays, native_method, abstract_method, declared, wanted_method, HasFewMembers, is_abstract_of};
 ghost use Rattle.class_index.specs.Declarations.{own_declaration, outer_declaration, said as view_said};
 
 use crate::outline::{MemberOutline, Outline};
-use jvm_tables::{ExternalMethod, ExternalRow, NativeRow, external_at, native_at, native_row};
+use jvm_tables::{
+    ExternalMethod, ExternalRow, Family, NativeRow, external_at, native_at, native_row,
+};
 
 /// A method that a class declares: its place in file order, or the row of a native; and what its flags say.
 #[derive(Clone, Copy, Debug, PartialEq, Eq, Drop)]
@@ -18,6 +20,20 @@ pub struct Method {
     pub is_private: bool,
     pub is_static: bool,
     pub is_abstract: bool,
+    pub is_native: bool,
+    /// A native that arrays alone have, as `clone`. No class overrides it.
+    pub is_of_arrays: bool,
+}
+
+impl Method {
+    ghost use Rattle.class_index.specs.Members.{has_code};
+
+    /// A method has code exactly where it is neither abstract nor native (JVMS 4.7.3).
+    pub fn has_code(&self) -> bool
+        ensures { result ≡ has_code self.now }
+    {
+        !(self.is_abstract || self.is_native)
+    }
 }
 
 /// A method as its class declares it.
@@ -73,6 +89,8 @@ fn method_of(at: u32, flags: u16) -> Method
         is_private: has_flag(flags, 0x0002),
         is_static: has_flag(flags, 0x0008),
         is_abstract: has_flag(flags, 0x0400),
+        is_native: has_flag(flags, 0x0100),
+        is_of_arrays: false,
     }
 }
 
@@ -98,6 +116,17 @@ pub(crate) fn own_view(class: &Outline, at: u32) -> MethodView<'_>
     }
 }
 
+fn in_arrays(family: Family) -> bool
+    ensures { result ≡ in_arrays family }
+{
+    match family {
+        Family::Arrays => true,
+        Family::Alone => false,
+        Family::Lists => false,
+        Family::Throwables => false,
+    }
+}
+
 pub(crate) fn native_method(row: &NativeRow) -> Method
     ensures { result ≡ native_method (native_said row.now) }
 {
@@ -106,6 +135,8 @@ pub(crate) fn native_method(row: &NativeRow) -> Method
         is_private: false,
         is_static: row.is_static,
         is_abstract: false,
+        is_native: true,
+        is_of_arrays: in_arrays(row.family),
     }
 }
 
@@ -145,6 +176,8 @@ fn abstract_method() -> Method
         is_private: false,
         is_static: false,
         is_abstract: true,
+        is_native: false,
+        is_of_arrays: false,
     }
 }
 

@@ -88,7 +88,7 @@ impl Index {
     ghost use Rattle.class_index.specs.Selection.{select};
 
     /// The method that a number names.
-    fn method(&self, id: MemberId) -> MethodView<'_>
+    pub fn method(&self, id: MemberId) -> MethodView<'_>
         requires { IsMethodId self.now id }
         ensures { Some (said result) ≡ method_at self.now id }
     {
@@ -118,17 +118,17 @@ impl Index {
     }
 
     /// The method that a call of a resolved method runs for a receiver of a class (JVMS 5.4.6): the resolved one where
-    /// it is private, else the nearest along the receiver's class and its superclasses that is neither private nor
+    /// it is private or one of arrays alone, as `clone`, else the nearest along the receiver's class and its superclasses that is neither private nor
     /// static, else the one superinterface method that is maximally specific and isn't abstract. A resolved method
     /// that is static is for the caller to refuse: for it too what would override it is answered. An array has the
-    /// receiver class `java/lang/Object`; `clone` of arrays, which no class overrides, is for the caller to know.
+    /// receiver class `java/lang/Object`.
     pub fn select(&self, resolved: MemberId, receiver: ClassId) -> Selected
         requires resolved { IsMethodId self.now resolved }
         requires receiver { IsClassId self.now receiver }
         ensures { result ≡ select self.now resolved receiver }
     {
         let method = self.method(resolved);
-        if method.method.is_private {
+        if method.method.is_private || method.method.is_of_arrays {
             return Selected::Found(resolved);
         }
         self.override_for(method.name, method.descriptor, receiver)
