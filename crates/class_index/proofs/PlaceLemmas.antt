@@ -1,10 +1,15 @@
 -- Look-ups of places by name, and the graph of the hierarchy.
-use Rattle.std.proofs.Common.{◌≡◌, ℕ, ◌+◌, ◌<◌, Bool, cond, List, [], ◌∷◌, length, map, get_or, drop, Option, Some, None, option_and_then, refl, sym, ◌∙◌, ap, subst, arith, inl, inr}
+use Rattle.std.proofs.Common.{◌≡◌, ℕ, ◌+◌, ◌<◌, Bool, true, false, cond, List, [], ◌∷◌, length, map, get_or, drop, Option, Some, None, option_and_then, refl, sym, ◌∙◌, ap, subst, arith, inl, inr}
 use Rattle.std.specs.Str.{bytes_eq}
 use Rattle.std.specs.Option.{option_to_list}
 use Rattle.std.specs.List.{All, filter_map, position_from}
-use Rattle.std.specs.Cmp.Lexicographic.{slice_cmp, nat_list_eq_equiv}
+use Rattle.std.specs.Prelude.{Vec}
+use Rattle.std.specs.BTreeMap.{BTreeMap, UpdatesBy}
+use Rattle.std.specs.Map.{KeepsOthers, IsKeyTest, AreApart, lookup}
+use Rattle.std.specs.Cmp.{eq_by_cmp_equiv}
+use Rattle.std.specs.Cmp.Lexicographic.{slice_cmp, nat_list_cmp_total, nat_list_eq_equiv}
 use Rattle.std.specs.Ordering.{nat_cmp, is_eq}
+use Rattle.std.proofs.lemmas.Slice.Eq.{bytes_eq-Decides}
 use Rattle.std.proofs.lemmas.Bool.{cases_Bool}
 use Rattle.std.proofs.lemmas.List.{drop_more, length-map}
 use Rattle.std.proofs.lemmas.List.Elements.{All-nil, All-cons, All-append}
@@ -12,14 +17,38 @@ use Rattle.std.proofs.lemmas.Map.Text.{is_eq-slice_cmp}
 use Rattle.place_graph.specs.Graphs.{AreWithin, IsGraph}
 use Rattle.class_index.specs.declared.outline.Outline.{Outline}
 use Rattle.class_index.specs.Hierarchy.{names, place_of, super_by, directs_by, supers, hierarchy}
-use Rattle.class_index.specs.Places.{IsPlaces}
+use Rattle.class_index.specs.Places.{IsPlaces, place_in}
+
+other_entries : {K X : Type 0} (eq : K → K → Bool) (test : K → Bool) (old new : List (K × X)) → KeepsOthers eq test old new → (other : K → Bool) → IsKeyTest eq other → AreApart test other
+    → lookup other new ≡ lookup other old
+unfolding KeepsOthers
+other_entries eq test old new h = h
+
+apart : (name q key : List ℕ) → bytes_eq name q ≡ false → is_eq (slice_cmp nat_cmp name key) ≡ true → is_eq (slice_cmp nat_cmp q key) ≡ false
+apart name q key n y =
+    is_eq-slice_cmp q key ∙ nat_list_eq_equiv.symm q key ∙ sym (nat_list_eq_equiv.congr name key q (sym (is_eq-slice_cmp name key) ∙ y)) ∙ n
+
+-- what a map has at each name after a name was entered
+pub entered : {A : Type 0} (name : List ℕ) (old new : BTreeMap (Vec ℕ A) ℕ) (at : ℕ)
+    → UpdatesBy (λ x y. slice_cmp nat_cmp x.items y.items) (λ k. slice_cmp nat_cmp name k.items) old new (Some at)
+    → (q : List ℕ) → place_in new q ≡ cond (bytes_eq name q) (Some at) (place_in old q)
+entered name old new at h q = elim (cases_Bool (bytes_eq name q)) [
+  | inl y ↦
+      let same : name ≡ q = (bytes_eq-Decides name q).0 y in
+      let here : place_in new q ≡ Some at = subst (λ (l : List ℕ). place_in new l ≡ Some at) same h.1 in
+      here ∙ sym (ap (λ b. cond b (Some at) (place_in old q)) y)
+  | inr n ↦
+      let kept : place_in new q ≡ place_in old q =
+      other_entries _ _ _ _ h.3 _ (λ x y. (eq_by_cmp_equiv nat_list_cmp_total).congr q x.items y.items) (λ k. apart name q k.items n) in
+      kept ∙ sym (ap (λ b. cond b (Some at) (place_in old q)) n)
+]
 
 -- the look-ups after one more name, in front, was entered
 pub places_more : (names : List (List ℕ)) (at : ℕ) (name : List ℕ) (old new : List ℕ → Option ℕ) → at < length names → name ≡ get_or names at []
-    → ((q : List ℕ) → new q ≡ cond (is_eq (slice_cmp nat_cmp name q)) (Some at) (old q)) → IsPlaces (at + 1) (drop (at + 1) names) old → IsPlaces at (drop at names) new
+    → ((q : List ℕ) → new q ≡ cond (bytes_eq name q) (Some at) (old q)) → IsPlaces (at + 1) (drop (at + 1) names) old → IsPlaces at (drop at names) new
 places_more names at name old new within is enters before q =
     let split : drop at names ≡ name ∷ drop (at + 1) names = drop_more names at [] within ∙ ap (λ (n : List ℕ). n ∷ drop (at + 1) names) (sym is) in
-    let test : is_eq (slice_cmp nat_cmp name q) ≡ bytes_eq q name = is_eq-slice_cmp name q ∙ nat_list_eq_equiv.symm name q in
+    let test : bytes_eq name q ≡ bytes_eq q name = nat_list_eq_equiv.symm name q in
     enters q ∙ ap (λ b. cond b (Some at) (old q)) test ∙ ap (λ o. cond (bytes_eq q name) (Some at) o) (before q)
     ∙ sym (ap (position_from (bytes_eq q) at) split)
 

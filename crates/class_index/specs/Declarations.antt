@@ -59,6 +59,10 @@ field_named classes id = of_class id.class
     of_class (Own class) = option_and_then (λ o. slice_get o.fields id.at) (slice_get classes class)
     of_class (Outer row) = None
 
+-- the field is there
+abbrev pub IsFieldId : List Outline → MemberId → Type 0
+IsFieldId classes id = IsSome (field_named classes id)
+
 -- what a method's texts in memory say
 abbrev pub said : MethodView → Declaration
 said view = declaration view.name.now view.descriptor.now view.method

@@ -1,21 +1,18 @@
 //! Programs that have no index.
 
 ghost use Rattle.std.specs.Prelude.{◌≡◌, ◌<◌, [], ◌∷◌, length, Some, None, option_copied, slice_get, if◌then◌else◌};
-ghost use Rattle.std.specs.BTreeMap.{get};
-ghost use Rattle.std.specs.Cmp.Lexicographic.{slice_cmp};
-ghost use Rattle.std.specs.Ordering.{nat_cmp};
+ghost use Rattle.class_index.specs.Places.{place_in};
 ghost use Rattle.jvm_tables.specs.Externals.{externals};
 ghost use Rattle.class_index.specs.Least.{lesser_of, least_from};
 ghost use Rattle.class_index.specs.Supers.{is_extensible, lacks, missing_by, marked_names};
 ghost use Rattle.class_index.specs.declared.fault.IndexFault.TheVariants as index_fault;
 
-use crate::hierarchy::find;
+use crate::hierarchy::{NamePlaces, find};
 use crate::outline::Outline;
 use class_model::Name;
 use jvm_tables::{EXTERNALS, external_at};
 use std::alloc::AllocError;
 use std::cmp::Ordering;
-use std::collections::BTreeMap;
 use thiserror::Error;
 
 /// Why a program has no index.
@@ -52,10 +49,10 @@ fn is_extensible(row: usize) -> bool
     }
 }
 
-fn lacks(places: &BTreeMap<Name, usize>, own: usize, name: &Name) -> bool
-    ensures { result ≡ lacks own (get (slice_cmp nat_cmp) places.now name.now) }
+fn lacks(places: &NamePlaces, own: usize, name: &Name) -> bool
+    ensures { result ≡ lacks own (place_in places.now name.now) }
 {
-    match find(places, name) {
+    match find(places, name.as_slice()) {
         None => true,
         Some(at) => {
             if at < own {
@@ -92,12 +89,12 @@ fn chosen<'a>(least: Option<&'a Name>, name: &'a Name, counts: bool) -> Option<&
 
 /// The lesser of a name and that of the class's superclass, if that is missing.
 fn without<'a>(
-    places: &BTreeMap<Name, usize>,
+    places: &NamePlaces,
     own: usize,
     class: &'a Outline,
     least: Option<&'a Name>,
 ) -> Option<&'a Name>
-    ensures { option_copied result ≡ least_from (option_copied least.entry) (missing_by (get (slice_cmp nat_cmp) places.now) own (class.now ∷ [])) }
+    ensures { option_copied result ≡ least_from (option_copied least.entry) (missing_by (place_in places.now) own (class.now ∷ [])) }
 {
     match &class.super_class {
         Some(name) => chosen(least, name, lacks(places, own, name)),
@@ -108,11 +105,11 @@ fn without<'a>(
 /// The least name of a superclass that is missing.
 #[tactic(auto, using(crate::proofs::Leasts::missing_more))]
 pub(crate) fn least_missing<'a>(
-    places: &BTreeMap<Name, usize>,
+    places: &NamePlaces,
     own: usize,
     classes: &'a [Outline],
 ) -> Option<&'a Name>
-    ensures { option_copied result ≡ least_from None (missing_by (get (slice_cmp nat_cmp) places.now) own classes.now) }
+    ensures { option_copied result ≡ least_from None (missing_by (place_in places.now) own classes.now) }
 {
     let mut least = None;
     for class in classes {

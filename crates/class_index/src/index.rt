@@ -2,29 +2,25 @@
 
 ghost use Rattle.std.specs.Prelude.{◌≡◌, ℕ, ◌≤◌, All, true, List, [], ◌++◌, ◌<◌, ◌^◌, IfOk, IfErr, OnOk, length, map, take, option_map, slice_get};
 ghost use Rattle.std.specs.Option.{option_to_list};
-ghost use Rattle.std.specs.BTreeMap.{get};
-ghost use Rattle.std.specs.Cmp.Lexicographic.{slice_cmp};
-ghost use Rattle.std.specs.Ordering.{nat_cmp};
 ghost use Rattle.class_model.specs.Shape.{Shaped};
 ghost use Rattle.jvm_tables.specs.Externals.{externals};
 ghost use Rattle.place_graph.specs.Searches.{AreReturning, is_marked};
 ghost use Rattle.class_index.specs.Outlines.{outline, outer_outline};
 ghost use Rattle.class_index.specs.Hierarchy.{all_of, names, hierarchy};
 ghost use Rattle.class_index.specs.Indexed.{IsAll};
-ghost use Rattle.class_index.specs.Places.{IsPlaces};
+ghost use Rattle.class_index.specs.Places.{IsPlaces, place_in};
 ghost use Rattle.class_index.specs.Least.{IsLeast};
 ghost use Rattle.class_index.specs.Supers.{missing_by, Returns, IsWhole};
 ghost use Rattle.class_index.specs.Faults.{IsMissingFault, IsFaultOf};
 
 use crate::fault::{IndexFault, least_marked, least_missing};
-use crate::hierarchy::{copy_of, hierarchy_of, places_of, supers_of};
+use crate::hierarchy::{NamePlaces, copy_of, hierarchy_of, places_of, supers_of};
 use crate::outline::{Outline, outer_outline_of, outline_of};
 use class_model::{Class, Name, Program};
 use jvm_tables::external_at;
 use place_graph::{Order, Places, order_of};
 use sqlite_items::Items;
 use std::alloc::{AllocError, Global};
-use std::collections::BTreeMap;
 use std::marker::Model;
 
 /// The outlines of a program's classes, and behind them those of the external classes.
@@ -66,7 +62,7 @@ pub struct Index {
     pub(crate) all: Items<Outline>,
     /// How many of them are the program's.
     pub(crate) own: usize,
-    pub(crate) places: BTreeMap<Name, usize>,
+    pub(crate) places: NamePlaces,
     pub(crate) supers: Items<Option<usize>>,
     pub(crate) above: Items<Places>,
 }
@@ -74,9 +70,7 @@ pub struct Index {
 impl Model for Index {
     ghost use Rattle.std.specs.Prelude.{List, take};
     ghost use Rattle.std.specs.Coded.{coded_list};
-    ghost use Rattle.std.specs.BTreeMap.{get};
-    ghost use Rattle.std.specs.Cmp.Lexicographic.{slice_cmp};
-    ghost use Rattle.std.specs.Ordering.{nat_cmp};
+    ghost use Rattle.class_index.specs.Places.{place_in};
     ghost use Rattle.class_index.specs.declared.outline.Outline.{Outline};
     ghost use Rattle.class_index.specs.contracts.outline.Outline as outline_type;
     ghost use Rattle.class_index.specs.Indexed.{IsIndex};
@@ -87,18 +81,14 @@ impl Model for Index {
 
     ghost view = { λ i. take i.own i.all };
 
-    ghost invariant = { λ i. IsIndex i.own i.all (get (slice_cmp nat_cmp) i.places) i.supers i.above };
+    ghost invariant = { λ i. IsIndex i.own i.all (place_in i.places) i.supers i.above };
 }
 
 /// Refuses a program in which a superclass is missing.
-fn refuse_missing(
-    places: &BTreeMap<Name, usize>,
-    own: usize,
-    all: &[Outline],
-) -> Result<(), IndexFault>
+fn refuse_missing(places: &NamePlaces, own: usize, all: &[Outline]) -> Result<(), IndexFault>
     requires { own ≤ length all.now }
-    ensures ok { OnOk result (missing_by (get (slice_cmp nat_cmp) places.now) own (take own all.now) ≡ []) }
-    ensures err { IfErr result (IsMissingFault (missing_by (get (slice_cmp nat_cmp) places.now) own (take own all.now))) }
+    ensures ok { OnOk result (missing_by (place_in places.now) own (take own all.now) ≡ []) }
+    ensures err { IfErr result (IsMissingFault (missing_by (place_in places.now) own (take own all.now))) }
 {
     let (classes, _) = all.split_at(own);
     match least_missing(places, own, classes) {
@@ -122,12 +112,12 @@ fn closed(
     alloc: Global,
     own: usize,
     all: Items<Outline>,
-    places: BTreeMap<Name, usize>,
+    places: NamePlaces,
 ) -> Result<Index, IndexFault>
     requires all { IsAll own all }
     requires few { length all < 2 ^ 32 }
-    requires places { IsPlaces 0 (names all) (get (slice_cmp nat_cmp) places) }
-    requires supers { missing_by (get (slice_cmp nat_cmp) places) own (take own all) ≡ [] }
+    requires places { IsPlaces 0 (names all) (place_in places) }
+    requires supers { missing_by (place_in places) own (take own all) ≡ [] }
     ensures ok { IfOk result (λ index. index ≡ take own all) }
     ensures fault { IfErr result (IsFaultOf (take own all)) }
     ensures whole { OnOk result (IsWhole (take own all)) }

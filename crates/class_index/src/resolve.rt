@@ -13,7 +13,7 @@ use crate::index::Index;
 use crate::lookup::{self, Found};
 use crate::members::native_method;
 use crate::outline::Outline;
-use class_model::{ClassId, MemberId, MemberRef, Name};
+use class_model::{ClassId, MemberId};
 use jvm_tables::{external, native_row};
 use place_graph::Places;
 
@@ -23,25 +23,29 @@ fn is_array(name: &[u8]) -> bool
     matches!(name, [b'[', ..])
 }
 
+/// The class at a place.
+pub(crate) fn class_at(own: usize, place: u32) -> ClassId
+    ensures { result ≡ id_of own place }
+{
+    if (place as usize) < own {
+        ClassId::Own(place)
+    } else {
+        ClassId::Outer(place - own as u32)
+    }
+}
+
 /// The member of a place.
 pub(crate) fn member_of(own: usize, place: u32, at: u32) -> MemberId
     ensures { result ≡ member_of own place at }
 {
-    if (place as usize) < own {
-        MemberId {
-            class: ClassId::Own(place),
-            at,
-        }
-    } else {
-        MemberId {
-            class: ClassId::Outer(place - own as u32),
-            at,
-        }
+    MemberId {
+        class: class_at(own, place),
+        at,
     }
 }
 
 impl Index {
-    ghost use Rattle.class_index.specs.Declarations.{IsMethodId};
+    ghost use Rattle.class_index.specs.Declarations.{IsMethodId, IsFieldId};
     ghost use Rattle.class_index.specs.Resolution.{resolve_field, owner_place, method_through, resolve_method};
     ghost use Rattle.class_index.specs.Hierarchy.{all_of, names, place_of};
 
@@ -78,7 +82,7 @@ impl Index {
     }
 
     /// The place of the class of a name.
-    fn named(&self, name: &Name) -> Option<usize>
+    pub(crate) fn named(&self, name: &[u8]) -> Option<usize>
         ensures value { result ≡ place_of (names (all_of self.now)) name.now }
         ensures within { IfSome result (λ place. place < length (all_of self.now)) }
     {
@@ -110,24 +114,21 @@ impl Index {
     }
 
     /// The field that a reference resolves to (JVMS 5.4.3.2). Access is not looked at.
-    pub fn resolve_field(&self, reference: &MemberRef) -> Option<MemberId>
-        ensures { result ≡ resolve_field self.now reference.now.owner reference.now.name reference.now.descriptor }
+    pub fn resolve_field(&self, owner: &[u8], name: &[u8], descriptor: &[u8]) -> Option<MemberId>
+        ensures value { result ≡ resolve_field self.now owner.now name.now descriptor.now }
+        ensures there { IfSome result (IsFieldId self.now) }
     {
-        let place = self.named(&reference.owner)?;
-        let (place, at) = self.field_from(
-            reference.name.as_slice(),
-            reference.descriptor.as_slice(),
-            place,
-        )?;
+        let place = self.named(owner)?;
+        let (place, at) = self.field_from(name, descriptor, place)?;
         Some(member_of(self.own(), place, at))
     }
 
     /// Where the methods of an owner are looked for: an array class has those of Object.
-    fn owner_place(&self, owner: &Name) -> Option<usize>
+    fn owner_place(&self, owner: &[u8]) -> Option<usize>
         ensures value { result ≡ owner_place self.now owner.now }
         ensures within { IfSome result (λ place. place < length (all_of self.now)) }
     {
-        if !is_array(owner.as_slice()) {
+        if !is_array(owner) {
             return self.named(owner);
         }
         match external(b"java/lang/Object") {
@@ -136,7 +137,7 @@ impl Index {
         }
     }
 
-    fn number(&self, place: usize) -> u32
+    pub(crate) fn number(&self, place: usize) -> u32
         requires { place < length (all_of self.now) }
         ensures { result ≡ place }
     {
@@ -144,13 +145,16 @@ impl Index {
         place as u32
     }
 
-    fn method_through(&self, reference: &MemberRef, place: usize) -> Option<Found>
+    fn method_through(
+        &self,
+        owner: &[u8],
+        name: &[u8],
+        descriptor: &[u8],
+        place: usize,
+    ) -> Option<Found>
         requires { place < length (all_of self.now) }
-        ensures { result ≡ method_through self.now reference.now.owner reference.now.name reference.now.descriptor place }
+        ensures { result ≡ method_through self.now owner.now name.now descriptor.now place }
     {
-        let owner = reference.owner.as_slice();
-        let name = reference.name.as_slice();
-        let descriptor = reference.descriptor.as_slice();
         match array_method(self.number(place), owner, name, descriptor) {
             Some(found) => Some(found),
             None => self.method_from(name, descriptor, place),
@@ -159,12 +163,12 @@ impl Index {
 
     /// The method that a reference resolves to (JVMS 5.4.3.3, for interfaces too). Access is not looked at. Where the
     /// standard lets any superinterface method be chosen, it is the first, depth first, in declared order.
-    pub fn resolve_method(&self, reference: &MemberRef) -> Option<MemberId>
-        ensures value { result ≡ resolve_method self.now reference.now.owner reference.now.name reference.now.descriptor }
+    pub fn resolve_method(&self, owner: &[u8], name: &[u8], descriptor: &[u8]) -> Option<MemberId>
+        ensures value { result ≡ resolve_method self.now owner.now name.now descriptor.now }
         ensures there { IfSome result (IsMethodId self.now) }
     {
-        let place = self.owner_place(&reference.owner)?;
-        let found = self.method_through(reference, place)?;
+        let place = self.owner_place(owner)?;
+        let found = self.method_through(owner, name, descriptor, place)?;
         Some(member_of(self.own(), found.place, found.method.at))
     }
 }

@@ -8,7 +8,7 @@ use crate::fault::IndexFault;
 use crate::index::{Index, add_external, indexed};
 use crate::outline::{MemberOutline, Outline};
 use crate::select::Selected;
-use class_model::{Class, ClassId, Constant, MemberId, MemberRef, Name, Pool, Program};
+use class_model::{Class, ClassId, Constant, MemberId, Name, Pool, Program};
 use sqlite_items::Items;
 use std::alloc::{AllocError, Global};
 use std::process::Abort;
@@ -295,19 +295,6 @@ fn index_of_rows(alloc: Global) -> Result<Index, Fail> {
     index_of(alloc, classes_of_rows(alloc)?)
 }
 
-fn reference(
-    alloc: Global,
-    owner: &str,
-    member: &str,
-    descriptor: &str,
-) -> Result<MemberRef, AllocError> {
-    Ok(MemberRef {
-        owner: name(alloc, owner)?,
-        name: name(alloc, member)?,
-        descriptor: name(alloc, descriptor)?,
-    })
-}
-
 fn wanted(query: &Query) -> Option<MemberId> {
     match query.3 {
         Some((class, at)) => Some(MemberId { class, at }),
@@ -315,28 +302,16 @@ fn wanted(query: &Query) -> Option<MemberId> {
     }
 }
 
-fn check_method(
-    rt: &impl Abort,
-    alloc: Global,
-    index: &Index,
-    query: &Query,
-) -> Result<(), AllocError> {
-    let found = index.resolve_method(&reference(alloc, query.0, query.1, query.2)?);
+fn check_method(rt: &impl Abort, index: &Index, query: &Query) {
+    let found = index.resolve_method(query.0.as_bytes(), query.1.as_bytes(), query.2.as_bytes());
     let wanted = wanted(query);
     assert!(rt; found == wanted);
-    Ok(())
 }
 
-fn check_field(
-    rt: &impl Abort,
-    alloc: Global,
-    index: &Index,
-    query: &Query,
-) -> Result<(), AllocError> {
-    let found = index.resolve_field(&reference(alloc, query.0, query.1, query.2)?);
+fn check_field(rt: &impl Abort, index: &Index, query: &Query) {
+    let found = index.resolve_field(query.0.as_bytes(), query.1.as_bytes(), query.2.as_bytes());
     let wanted = wanted(query);
     assert!(rt; found == wanted);
-    Ok(())
 }
 
 fn check_subtype(rt: &impl Abort, index: &Index, row: &(u32, u32, bool)) {
@@ -349,14 +324,9 @@ fn check_subtype(rt: &impl Abort, index: &Index, row: &(u32, u32, bool)) {
     }
 }
 
-fn check_selection(
-    rt: &impl Abort,
-    alloc: Global,
-    index: &Index,
-    case: &Selection,
-) -> Result<(), AllocError> {
+fn check_selection(rt: &impl Abort, index: &Index, case: &Selection) {
     let (owner, name, descriptor, receiver, wanted) = *case;
-    let resolved = index.resolve_method(&reference(alloc, owner, name, descriptor)?);
+    let resolved = index.resolve_method(owner.as_bytes(), name.as_bytes(), descriptor.as_bytes());
     assert!(rt; resolved.is_some() && (receiver as usize) < index.own());
     if let Some(resolved) = resolved {
         if (receiver as usize) < index.own() {
@@ -364,7 +334,6 @@ fn check_selection(
             assert!(rt; selected == wanted);
         }
     }
-    Ok(())
 }
 
 #[test]
@@ -372,7 +341,7 @@ fn methods_are_resolved(rt: HostRuntime) -> Result<(), Fail> {
     let alloc = rt.alloc();
     let index = index_of_rows(alloc)?;
     for query in &METHODS {
-        check_method(&rt, alloc, &index, query)?;
+        check_method(&rt, &index, query);
     }
     Ok(())
 }
@@ -382,7 +351,7 @@ fn fields_are_resolved(rt: HostRuntime) -> Result<(), Fail> {
     let alloc = rt.alloc();
     let index = index_of_rows(alloc)?;
     for query in &FIELDS {
-        check_field(&rt, alloc, &index, query)?;
+        check_field(&rt, &index, query);
     }
     Ok(())
 }
@@ -392,7 +361,7 @@ fn methods_are_selected(rt: HostRuntime) -> Result<(), Fail> {
     let alloc = rt.alloc();
     let index = index_of_rows(alloc)?;
     for case in &SELECTIONS {
-        check_selection(&rt, alloc, &index, case)?;
+        check_selection(&rt, &index, case);
     }
     Ok(())
 }

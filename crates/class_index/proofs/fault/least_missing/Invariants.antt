@@ -1,12 +1,10 @@
 use Rattle.std.proofs.Common.{◌≡◌, None, drop}
 use Rattle.std.specs.Option.{option_copied}
-use Rattle.std.specs.BTreeMap.{get}
-use Rattle.std.specs.Cmp.Lexicographic.{slice_cmp}
-use Rattle.std.specs.Ordering.{nat_cmp}
+use Rattle.class_index.specs.Places.{place_in}
 use Rattle.class_index.specs.Least.{least_from}
 use Rattle.class_index.specs.Supers.{missing_by}
 use Rattle.class_index.proofs.fault.least_missing.Given as goal
 
 abbrev pub invariant-loop-class : goal.invariant-loop-class
 invariant-loop-class l =
-    least_from (option_copied l.least) (missing_by (get (slice_cmp nat_cmp) l.places) l.own (drop l.class-index l.classes)) ≡ least_from None (missing_by (get (slice_cmp nat_cmp) l.places) l.own l.classes)
+    least_from (option_copied l.least) (missing_by (place_in l.places) l.own (drop l.class-index l.classes)) ≡ least_from None (missing_by (place_in l.places) l.own l.classes)

@@ -5,5 +5,5 @@ use Rattle.class_index.proofs.index.Index.resolve_method.Goals as goal
 
 pub returns-clause-there : goal.returns-clause-there
 returns-clause-there c =
-    let value : Some c.member_of.result ≡ resolve_method c.args.self.now c.args.reference.now.owner c.args.reference.now.name c.args.reference.now.descriptor = search rules in
-    method_there c.args.self.now c.args.reference.now.owner c.args.reference.now.name c.args.reference.now.descriptor c.member_of.result value
+    let value : Some c.member_of.result ≡ resolve_method c.args.self.now c.args.owner.now c.args.name.now c.args.descriptor.now = search rules in
+    method_there c.args.self.now c.args.owner.now c.args.name.now c.args.descriptor.now c.member_of.result value
