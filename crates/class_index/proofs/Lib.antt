@@ -1,6 +1,7 @@
 pub mod Built
 pub mod Climbs
 pub mod DeclarationLemmas
+pub mod FactLemmas
 pub mod Inherits
 pub mod Leasts
 pub mod Listings

@@ -1,5 +1,7 @@
 pub mod Added
+pub mod Below
 pub mod Declarations
+pub mod Facts
 pub mod Faults
 pub mod Hierarchy
 pub mod Indexed
@@ -7,9 +9,11 @@ pub mod Inherited
 pub mod Least
 pub mod Lookups
 pub mod Members
+pub mod Naming
 pub mod Outlines
 pub mod Places
 pub mod Resolution
 pub mod Selection
 pub mod Subtyping
 pub mod Supers
+pub mod Targets

@@ -1,5 +1,5 @@
 -- What of a class its hierarchy is made of.
-use Rattle.std.specs.Prelude.{ℕ, [], All, IfSome, map, filter_map, if◌then◌else◌}
+use Rattle.std.specs.Prelude.{ℕ, ◌+◌, [], All, IfSome, map, filter_map, if◌then◌else◌}
 use Rattle.class_model.specs.declared.class_file.Class.{Class}
 use Rattle.class_model.specs.declared.class_file.Member.{Member}
 use Rattle.class_model.specs.declared.constant_pool.Pool.{Pool}
@@ -28,6 +28,14 @@ outline c =
 abbrev pub interface_flag : ℕ
 interface_flag = 0x0200
 
+-- ACC_ABSTRACT, JVMS 4.1
+abbrev pub abstract_flag : ℕ
+abstract_flag = 0x0400
+
+-- Of an external class it is known whether it is an interface and whether it is abstract.
+abbrev pub outer_flags : External → ℕ
+outer_flags row = (if row.is_interface then interface_flag else 0) + (if row.is_abstract then abstract_flag else 0)
+
 -- The members of an external class are natives, which stand in their own table.
 abbrev pub outer_outline : External → Outline
 outer_outline row =
@@ -35,7 +43,7 @@ outer_outline row =
       name = row.class;
       super_class = row.super_class;
       interfaces = row.interfaces;
-      flags = if row.is_interface then interface_flag else 0;
+      flags = outer_flags row;
       fields = [];
       methods = [];
     }

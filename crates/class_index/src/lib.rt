@@ -3,6 +3,8 @@
 //! `Index` of a program once and ask it; its questions take no memory.
 #![tactic(auto)]
 
+mod below;
+mod facts;
 mod fault;
 mod hierarchy;
 mod index;
@@ -14,6 +16,7 @@ mod outline;
 mod resolve;
 mod select;
 mod subtype;
+mod targets;
 
 pub use fault::IndexFault;
 pub use index::Index;
@@ -22,7 +25,7 @@ pub use laws::{
     selected_methods_override, subtyping_is_reflexive, subtyping_is_transitive,
 };
 pub use lookup::Found;
-pub use members::{ABSTRACT_AT, Method};
+pub use members::{ABSTRACT_AT, Method, MethodView};
 pub use outline::{MemberOutline, Outline};
 pub use select::Selected;
 

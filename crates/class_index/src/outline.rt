@@ -5,7 +5,7 @@ ghost use Rattle.std.specs.Option.{ForSome};
 ghost use Rattle.class_model.specs.Constants.{text_at, class_at, IsPool};
 ghost use Rattle.class_model.specs.ModifiedUtf8.{IsName};
 ghost use Rattle.class_model.specs.Shape.{Shaped};
-ghost use Rattle.class_index.specs.Outlines.{member_outline, outline, outer_outline, HasNames};
+ghost use Rattle.class_index.specs.Outlines.{member_outline, outline, outer_outline, outer_flags, HasNames};
 ghost use Rattle.jvm_tables.specs.Externals.{said};
 
 use crate::lists::push_some;
@@ -136,6 +136,14 @@ fn given_name(alloc: Global, text: Option<&'static str>) -> Result<Option<Name>,
     }
 }
 
+fn outer_flags(row: &ExternalRow) -> u16
+    ensures { result ≡ outer_flags (said row.now).1 }
+{
+    let interface = if row.is_interface { 0x0200 } else { 0 };
+    let of_abstract = if row.is_abstract { 0x0400 } else { 0 };
+    interface + of_abstract
+}
+
 /// The outline of an external class. Its members are natives and stand in their own table.
 pub(crate) fn outer_outline_of(alloc: Global, row: &ExternalRow) -> Result<Outline, AllocError>
     requires { HasNames (said row.now).1 }
@@ -144,12 +152,11 @@ pub(crate) fn outer_outline_of(alloc: Global, row: &ExternalRow) -> Result<Outli
     let name = Name::of_valid(alloc, row.class.as_bytes())?;
     let super_class = given_name(alloc, row.super_class)?;
     let interfaces = given_names(alloc, row.interfaces)?;
-    let flags = if row.is_interface { 0x0200 } else { 0 };
     Ok(Outline {
         name,
         super_class,
         interfaces,
-        flags,
+        flags: outer_flags(row),
         fields: Items::new(alloc),
         methods: Items::new(alloc),
     })

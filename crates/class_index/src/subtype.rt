@@ -21,6 +21,7 @@ pub(crate) fn contains(places: &[usize], place: usize) -> bool
 impl Index {
     ghost use Rattle.class_index.specs.Hierarchy.{IsClassId, place};
     ghost use Rattle.class_index.specs.Subtyping.{IsSubtype, class_name};
+    ghost use Rattle.class_index.specs.Below.{is_subtype};
 
     /// The place of a class among all.
     pub(crate) fn place(&self, class: ClassId) -> usize
@@ -37,7 +38,8 @@ impl Index {
     pub fn is_subtype(&self, low: ClassId, high: ClassId) -> bool
         requires low { IsClassId self.now low }
         requires high { IsClassId self.now high }
-        ensures { IsTrue result ↔ IsSubtype self.now low high }
+        ensures value { result ≡ is_subtype self.now low high }
+        ensures means { IsTrue result ↔ IsSubtype self.now low high }
     {
         let low = self.place(low);
         let high = self.place(high);
