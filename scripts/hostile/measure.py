@@ -25,15 +25,12 @@ GIVES_UP = 120
 LEAST_SECONDS = 0.05
 
 
-def written(folder, case, size):
-    """Writes the class files of a case, and gives the sum of their bytes."""
-    classes = folder / "classes"
+def write(folder, name, size):
+    """Writes the class files of a case."""
+    classes = Path(folder) / f"{name}-{size}" / "classes"
     classes.mkdir(parents=True)
-    total = 0
-    for name, content in case(size).items():
-        (classes / name).write_bytes(content)
-        total += len(content)
-    return total
+    for file, content in CASES[name](size).items():
+        (classes / file).write_bytes(content)
 
 
 def run_once(program, folder):
@@ -69,10 +66,13 @@ def run(program, folder):
 def measured(program, name):
     """Prints the row of a case, and gives what misses an aim."""
     results = []
-    for size in (1, 2):
-        with tempfile.TemporaryDirectory() as work:
-            total = written(Path(work), CASES[name], size)
-            results.append((total, *run(program, work)))
+    with tempfile.TemporaryDirectory() as work:
+        # By a process of its own, since the memory of this one counts in a child's.
+        subprocess.run([sys.executable, "-B", __file__, "--write", work, name], check=True)
+        for size in (1, 2):
+            folder = Path(work) / f"{name}-{size}"
+            total = sum(file.stat().st_size for file in (folder / "classes").iterdir())
+            results.append((total, *run(program, folder)))
     (total, taken, memory, line), (half_total, half_taken, half_memory, _) = results
     ratio = taken / max(half_taken, LEAST_SECONDS)
     print(
@@ -101,8 +101,7 @@ def main():
     if words[0] == "--write":
         for name in words[2:] or CASES:
             for size in (1, 2):
-                total = written(Path(words[1]) / f"{name}-{size}", CASES[name], size)
-                print(f"{name}-{size}: {total:,} bytes")
+                write(words[1], name, size)
         return
     program = os.path.abspath(words[0])
     print("| case | bytes | time | memory | half: bytes | time | memory | times | answer |")
