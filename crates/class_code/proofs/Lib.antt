@@ -1,3 +1,4 @@
 pub mod Codes
 pub mod DescriptorLemmas
+pub mod SiteLemmas
 pub mod Uses

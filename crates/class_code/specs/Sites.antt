@@ -1,5 +1,5 @@
 -- The call sites of invokedynamic: lambdas and concatenations (JVMS 4.7.23, 6.5).
-use Rattle.std.specs.Prelude.{ℕ, Bool, true, false, not, ◌&&◌, ◌||◌, ◌==◌, nat_le, List, [], ◌∷◌, ◌++◌, length, codes, bytes_eq, count_by, Option, Some, None, option_map, option_and_then, if◌then◌else◌}
+use Rattle.std.specs.Prelude.{ℕ, Bool, true, false, not, ◌&&◌, ◌||◌, ◌==◌, nat_le, List, [], ◌∷◌, ◌++◌, length, codes, bytes_eq, count_by, Option, Some, None, is_none, option_map, option_and_then, unwrap_or, if◌then◌else◌}
 use Rattle.std.specs.List.{list_all}
 use Rattle.jvm_tables.specs.declared.code.Instr.{Instr}
 use Rattle.jvm_tables.specs.declared.instruction.OpRow.{OpRow}
@@ -13,34 +13,92 @@ use Rattle.class_model.specs.declared.constant_pool.Pool.{Pool}
 use Rattle.class_model.specs.declared.constant_pool.Constant.{Constant}
 use Rattle.class_model.specs.declared.constant_pool.Constant.TheVariants as constants
 use Rattle.class_model.specs.Constants.{constant_at, text_at, is_some_that}
-use Rattle.class_model.specs.Descriptors.{FieldType, object}
+use Rattle.class_model.specs.Descriptors.{FieldType, object, method_type}
 use Rattle.class_code.specs.Types.{Signature, signature_of, gives}
-use Rattle.class_code.specs.Constants.{constant_of, descriptor_at}
+use Rattle.class_code.specs.Constants.{constant_of, name_at, descriptor_at}
 use Rattle.class_code.specs.Bootstraps.{bootstrap_at, metafactory, concatenating, is_bootstrap_by}
+use Rattle.class_code.specs.Named.{HandleRef, handle_at, method_type_at}
+
+-- A lambda's site. Its descriptor takes the captured values and gives the interface, whose method has a name and a
+-- type; the implementing method; and the type that the interface's method has there.
+pub record LambdaSite : Type 0 where
+  pub method : List ℕ
+  pub descriptor : List ℕ
+  pub erased : List ℕ
+  pub implementing : HandleRef
+  pub instantiated : List ℕ
+
+-- A concatenation's site: its descriptor takes the arguments; the recipe; and the numbers of its constants.
+pub record ConcatenationSite : Type 0 where
+  pub descriptor : List ℕ
+  pub recipe : List ℕ
+  pub constants : List ℕ
+
+pub data Site : Type 0 where
+  lambda : LambdaSite → Site
+  concatenation : ConcatenationSite → Site
+
+-- the types of the values that a lambda captures
+abbrev pub captured : LambdaSite → List FieldType
+captured l = unwrap_or (option_map (λ m. m.parameters) (method_type l.descriptor)) []
+
+abbrev pub object_name : FieldType → Option (List ℕ)
+object_name (object name) = Some name
+object_name _ = None
+
+-- the class that a method's type gives, where it gives one that is no array
+abbrev pub class_given : List ℕ → Option (List ℕ)
+class_given descriptor = option_and_then object_name (option_and_then (λ m. m.returned) (method_type descriptor))
+
+-- the interface that a lambda has
+abbrev pub interface : LambdaSite → Option (List ℕ)
+interface l = class_given l.descriptor
+
+abbrev pub lambda_with : List ℕ → List ℕ → Option (List ℕ) → Option HandleRef → Option (List ℕ) → Option LambdaSite
+lambda_with method descriptor (Some erased) (Some implementing) (Some instantiated) =
+    Some (record { method = method; descriptor = descriptor; erased = erased; implementing = implementing; instantiated = instantiated })
+lambda_with method descriptor _ _ _ = None
+
+-- a lambda by its three static arguments
+abbrev pub lambda_by : Pool → List ℕ → List ℕ → List ℕ → Option LambdaSite
+lambda_by pool method descriptor (a ∷ b ∷ c ∷ []) =
+    lambda_with method descriptor (method_type_at pool a) (handle_at pool b) (method_type_at pool c)
+lambda_by pool method descriptor _ = None
+
+abbrev pub recipe_of : Pool → Constant → Option (List ℕ)
+recipe_of pool (constants.Text text) = text_at pool text
+recipe_of pool _ = None
+
+abbrev pub concatenation_with : List ℕ → List ℕ → List ℕ → ConcatenationSite
+concatenation_with descriptor numbers recipe = record { descriptor = descriptor; recipe = recipe; constants = numbers }
+
+-- a concatenation by its static arguments, the recipe first
+abbrev pub concatenation_by : Pool → List ℕ → List ℕ → Option ConcatenationSite
+concatenation_by pool descriptor [] = None
+concatenation_by pool descriptor (recipe ∷ others) =
+    option_map (concatenation_with descriptor others) (option_and_then (recipe_of pool) (constant_at pool recipe))
+
+-- a site by the bootstrap method, which is one of the two
+abbrev pub site_by : Pool → List ℕ → List ℕ → Bootstrap → Option Site
+site_by pool method descriptor b =
+    if is_bootstrap_by pool metafactory b then option_map lambda (lambda_by pool method descriptor b.arguments)
+    else if is_bootstrap_by pool concatenating b then option_map concatenation (concatenation_by pool descriptor b.arguments)
+    else None
+
+abbrev pub site_with : Pool → Option (List ℕ) → Option (List ℕ) → Option Bootstrap → Option Site
+site_with pool (Some method) (Some descriptor) (Some b) = site_by pool method descriptor b
+site_with pool _ _ _ = None
+
+-- What the file says of a site by an entry of the table of bootstrap methods and a name and type, whether or not its
+-- parts go together.
+unfoldable pub written_site : Class → ℕ → ℕ → Option Site
+written_site class bootstrap name_type =
+    site_with class.pool (name_at class.pool name_type) (descriptor_at class.pool name_type) (bootstrap_at class bootstrap)
 
 -- a method handle as the implementation of a lambda: its kind, and the type of its method
 pub record Implementing : Type 0 where
   pub kind : ℕ
   pub method : Signature
-
-abbrev pub type_of_constant : Pool → Constant → Option Signature
-type_of_constant pool (constants.MethodType descriptor) = option_and_then signature_of (text_at pool descriptor)
-type_of_constant pool _ = None
-
-unfoldable pub type_at : Pool → ℕ → Option Signature
-type_at pool n = option_and_then (type_of_constant pool) (constant_at pool n)
-
-abbrev pub type_of_member : Pool → Constant → Option Signature
-type_of_member pool (constants.Ref tag class name_type) = option_and_then signature_of (descriptor_at pool name_type)
-type_of_member pool _ = None
-
-abbrev pub implementing_of : Pool → Constant → Option Implementing
-implementing_of pool (constants.Handle kind reference) =
-    option_map (λ m. record { kind = kind; method = m }) (option_and_then (type_of_member pool) (constant_at pool reference))
-implementing_of pool _ = None
-
-unfoldable pub implementing_at : Pool → ℕ → Option Implementing
-implementing_at pool n = option_and_then (implementing_of pool) (constant_at pool n)
 
 -- The kinds that take a receiver are invokeVirtual, invokeSpecial and invokeInterface (JVMS 4.4.8).
 abbrev pub takes_receiver : ℕ → Bool
@@ -96,15 +154,14 @@ abbrev pub is_string : FieldType → Bool
 is_string (object name) = bytes_eq (codes "java/lang/String") name
 is_string _ = false
 
--- a lambda: the type of its site, whose parameters are captured; the type of the interface's method; the implementing
--- method; and the type that the interface's method has there
-pub record Lambda : Type 0 where
+-- the types of a lambda by their kinds
+pub record LambdaKinds : Type 0 where
   pub site : Signature
   pub erased : Signature
   pub implementing : Implementing
   pub instantiated : Signature
 
-unfoldable pub is_sound : Lambda → Bool
+unfoldable pub is_sound : LambdaKinds → Bool
 is_sound l =
     is_some_that is_object l.site.returned
     && are_kinds l.erased.takes l.instantiated.takes
@@ -113,19 +170,19 @@ is_sound l =
     && are_arguments (l.site.takes ++ l.instantiated.takes) (wanted l.implementing)
     && returns_to l.implementing.kind (gives l.implementing.method) (gives l.instantiated)
 
-abbrev pub lambda_with : Signature → Option Signature → Option Implementing → Option Signature → Option Lambda
-lambda_with site (Some erased) (Some implementing) (Some instantiated) =
+abbrev pub implementing_by : ℕ → Signature → Implementing
+implementing_by kind method = record { kind = kind; method = method }
+
+abbrev pub kinds_with : Option Signature → Option Signature → Option Implementing → Option Signature → Option LambdaKinds
+kinds_with (Some site) (Some erased) (Some implementing) (Some instantiated) =
     Some (record { site = site; erased = erased; implementing = implementing; instantiated = instantiated })
-lambda_with site _ _ _ = None
+kinds_with _ _ _ _ = None
 
--- a site by its three static arguments
-abbrev pub is_lambda : Pool → Signature → List ℕ → Bool
-is_lambda pool site (a ∷ b ∷ c ∷ []) = is_some_that is_sound (lambda_with site (type_at pool a) (implementing_at pool b) (type_at pool c))
-is_lambda pool site _ = false
-
-abbrev pub recipe_of : Pool → Constant → Option (List ℕ)
-recipe_of pool (constants.Text text) = text_at pool text
-recipe_of pool _ = None
+abbrev pub lambda_kinds : LambdaSite → Option LambdaKinds
+lambda_kinds l =
+    kinds_with (signature_of l.descriptor) (signature_of l.erased)
+    (option_map (implementing_by l.implementing.kind) (signature_of l.implementing.member.descriptor))
+    (signature_of l.instantiated)
 
 -- what a constant of a concatenation may be
 abbrev pub is_joined : Constant → Bool
@@ -139,29 +196,28 @@ abbrev pub is_recipe : ℕ → ℕ → List ℕ → Bool
 is_recipe arguments constants recipe =
     count_by (λ b. b == 1) recipe == arguments && count_by (λ b. b == 2) recipe == constants
 
--- a site by its recipe and its constants
-abbrev pub is_concatenation : Pool → Signature → List ℕ → Bool
-is_concatenation pool site [] = false
-is_concatenation pool site (recipe ∷ others) =
-    is_some_that is_string site.returned
-    && is_some_that (is_recipe (length site.takes) (length others)) (option_and_then (recipe_of pool) (constant_at pool recipe))
-    && list_all (λ n. is_some_that is_joined (constant_at pool n)) others
+abbrev pub is_joining : ConcatenationSite → Signature → Bool
+is_joining c site = is_some_that is_string site.returned && is_recipe (length site.takes) (length c.constants) c.recipe
 
-abbrev pub is_known_by : Pool → Signature → Bootstrap → Bool
-is_known_by pool site b =
-    if is_bootstrap_by pool metafactory b then is_lambda pool site b.arguments
-    else is_bootstrap_by pool concatenating b && is_concatenation pool site b.arguments
+-- the parts of a site go together
+abbrev pub is_sound_site : Pool → Site → Bool
+is_sound_site pool (lambda l) = is_some_that is_sound (lambda_kinds l)
+is_sound_site pool (concatenation c) =
+    is_some_that (is_joining c) (signature_of c.descriptor)
+    && list_all (λ n. is_some_that is_joined (constant_at pool n)) c.constants
 
--- a site of one of the two forms, which keeps its rules
-unfoldable pub is_known : Class → ℕ → ℕ → Bool
-is_known class bootstrap name_type =
-    is_some_that (λ site. is_some_that (is_known_by class.pool site) (bootstrap_at class bootstrap))
-    (option_and_then signature_of (descriptor_at class.pool name_type))
+abbrev pub if_sound : Pool → Option Site → Option Site
+if_sound pool None = None
+if_sound pool (Some site) = if is_sound_site pool site then Some site else None
+
+-- the site by an entry of the table of bootstrap methods and a name and type, whose parts go together
+unfoldable pub site_at : Class → ℕ → ℕ → Option Site
+site_at class bootstrap name_type = if_sound class.pool (written_site class bootstrap name_type)
 
 abbrev pub unknown_by : ConstantUse → Class → Constant → Bool
-unknown_by uses.CallSite class (constants.InvokeDynamic bootstrap name_type) = not (is_known class bootstrap name_type)
+unknown_by uses.CallSite class (constants.InvokeDynamic bootstrap name_type) = is_none (site_at class bootstrap name_type)
 unknown_by _ class _ = false
 
--- an invokedynamic of another bootstrap, or of one that breaks its rules
+-- an invokedynamic that has no site
 unfoldable pub has_unknown_site : Class → OpRow → Instr → Bool
 has_unknown_site class row instr = is_some_that (unknown_by row.constant class) (constant_of class instr)

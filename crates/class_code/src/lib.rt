@@ -8,7 +8,10 @@ mod code;
 mod constants;
 mod control;
 mod lambdas;
+mod laws;
+mod named;
 mod operand;
+mod site;
 mod sites;
 mod types;
 
@@ -19,6 +22,9 @@ pub use constants::{
     told_by_row,
 };
 pub use control::{covers, target};
+pub use laws::{code_is_where_told_of, sound_sites_are_written};
+pub use named::{HandleView, MemberView, NamedView, handle_at, method_type_at, named_at};
 pub use operand::local_of;
+pub use site::{ConcatenationView, LambdaView, SiteView, written_site};
 pub use sites::SiteKinds;
 pub use types::{Returned, has_float, kind_of, read_kinds};
