@@ -1,6 +1,6 @@
 //! The hierarchy of classes as a graph of their places.
 
-ghost use Rattle.std.specs.Prelude.{◌≡◌, ◌<◌, ℕ, Some, IfOk, map, filter_map, length};
+ghost use Rattle.std.specs.Prelude.{◌≡◌, ◌<◌, ℕ, Some, IfOk, map, filter_map, length, ◌^◌};
 ghost use Rattle.class_index.specs.Hierarchy.{names, place_of, super_by, directs_by};
 ghost use Rattle.class_index.specs.Places.{IsPlaces, place_in};
 
@@ -22,10 +22,11 @@ pub(crate) fn copy_of(name: &Name) -> Result<Name, AllocError>
 }
 
 /// The places of classes by their names.
-pub(crate) type NamePlaces = BTreeMap<Vec<u8>, usize>;
+pub(crate) type NamePlaces = BTreeMap<Vec<u8>, u32>;
 
 /// The place of each name, the first one where classes share it.
 pub(crate) fn places_of(alloc: Global, all: &[Outline]) -> Result<NamePlaces, AllocError>
+    requires { length all.now < 2 ^ 32 }
     ensures { IfOk result (λ places. IsPlaces 0 (names all.now) (place_in places)) }
 {
     let mut places = BTreeMap::new(alloc);
@@ -33,22 +34,31 @@ pub(crate) fn places_of(alloc: Global, all: &[Outline]) -> Result<NamePlaces, Al
     while at > 0 {
         at -= 1;
         let name = Vec::from_slice(alloc, all[at].name.as_slice())?;
-        places.insert(name, at)?;
+        places.insert(name, at as u32)?;
     }
     Ok(places)
 }
 
-pub(crate) fn find(places: &NamePlaces, name: &[u8]) -> Option<usize>
+fn place_named(places: &NamePlaces, name: &[u8]) -> Option<u32>
     ensures { result ≡ place_in places.now name.now }
 {
     places.get(name).copied()
 }
 
-pub(crate) fn super_of(places: &NamePlaces, class: &Outline) -> Option<usize>
+pub(crate) fn find(places: &NamePlaces, name: &[u8]) -> Option<usize>
+    ensures { result ≡ place_in places.now name.now }
+{
+    match place_named(places, name) {
+        Some(place) => Some(place as usize),
+        None => None,
+    }
+}
+
+pub(crate) fn super_of(places: &NamePlaces, class: &Outline) -> Option<u32>
     ensures { result ≡ super_by (place_in places.now) class.now }
 {
     match &class.super_class {
-        Some(name) => find(places, name.as_slice()),
+        Some(name) => place_named(places, name.as_slice()),
         None => None,
     }
 }
@@ -62,7 +72,7 @@ fn interfaces_of(
 {
     let mut found = Items::new(alloc);
     for name in interfaces {
-        push_some(&mut found, find(places, name.as_slice()))?;
+        push_some(&mut found, place_named(places, name.as_slice()))?;
     }
     Ok(found)
 }
@@ -95,7 +105,7 @@ pub(crate) fn supers_of(
     alloc: Global,
     places: &NamePlaces,
     all: &[Outline],
-) -> Result<Items<Option<usize>>, AllocError>
+) -> Result<Items<Option<u32>>, AllocError>
     ensures { IfOk result (λ supers. supers ≡ map (super_by (place_in places.now)) all.now) }
 {
     let mut supers = Items::new(alloc);

@@ -63,7 +63,7 @@ pub struct Index {
     /// How many of them are the program's.
     pub(crate) own: usize,
     pub(crate) places: NamePlaces,
-    pub(crate) supers: Items<Option<usize>>,
+    pub(crate) supers: Items<Option<u32>>,
     pub(crate) above: Items<Places>,
 }
 

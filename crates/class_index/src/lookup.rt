@@ -30,7 +30,7 @@ pub enum Choice {
 pub(crate) fn nearest(
     own: usize,
     all: &[Outline],
-    supers: &[Option<usize>],
+    supers: &[Option<u32>],
     name: &[u8],
     descriptor: &[u8],
     wanted: Wanted,
@@ -52,7 +52,7 @@ pub(crate) fn nearest(
             });
         }
         match supers[place] {
-            Some(next) => place = next,
+            Some(next) => place = next as usize,
             None => return None,
         }
     }
@@ -94,7 +94,7 @@ fn is_beaten(
     name: &[u8],
     descriptor: &[u8],
     place: usize,
-    others: &[usize],
+    others: &[u32],
 ) -> bool
     requires members { All HasFewMembers all.now }
     requires few { length all.now < 2 ^ 32 }
@@ -103,8 +103,8 @@ fn is_beaten(
     ensures { result ≡ is_beaten (in_interface own all.now name.now descriptor.now) (edges_of above.now) place others.now }
 {
     for other in others {
-        if in_interface(own, all, name, descriptor, *other).is_some()
-            && contains(above[*other].as_slice(), place)
+        if in_interface(own, all, name, descriptor, *other as usize).is_some()
+            && contains(above[*other as usize].as_slice(), place)
         {
             return true;
         }
@@ -120,7 +120,7 @@ fn specific(
     name: &[u8],
     descriptor: &[u8],
     place: usize,
-    others: &[usize],
+    others: &[u32],
 ) -> Option<Found>
     requires members { All HasFewMembers all.now }
     requires few { length all.now < 2 ^ 32 }
@@ -161,7 +161,7 @@ pub(crate) fn most_specific(
     above: &[Places],
     name: &[u8],
     descriptor: &[u8],
-    others: &[usize],
+    others: &[u32],
 ) -> Choice
     requires members { All HasFewMembers all.now }
     requires few { length all.now < 2 ^ 32 }
@@ -173,7 +173,7 @@ pub(crate) fn most_specific(
     for place in others {
         choice = added(
             choice,
-            specific(own, all, above, name, descriptor, *place, others),
+            specific(own, all, above, name, descriptor, *place as usize, others),
         );
     }
     choice
@@ -185,7 +185,7 @@ fn first_in(
     all: &[Outline],
     name: &[u8],
     descriptor: &[u8],
-    places: &[usize],
+    places: &[u32],
 ) -> Option<Found>
     requires members { All HasFewMembers all.now }
     requires few { length all.now < 2 ^ 32 }
@@ -193,9 +193,9 @@ fn first_in(
     ensures { result ≡ first_in (in_interface own all.now name.now descriptor.now) places.now }
 {
     for place in places {
-        if let Some(method) = in_interface(own, all, name, descriptor, *place) {
+        if let Some(method) = in_interface(own, all, name, descriptor, *place as usize) {
             return Some(Found {
-                place: *place as u32,
+                place: *place,
                 method,
             });
         }
@@ -207,7 +207,7 @@ fn first_in(
 pub(crate) fn resolved(
     own: usize,
     all: &[Outline],
-    supers: &[Option<usize>],
+    supers: &[Option<u32>],
     above: &[Places],
     name: &[u8],
     descriptor: &[u8],
@@ -234,7 +234,7 @@ fn in_superinterfaces(
     above: &[Places],
     name: &[u8],
     descriptor: &[u8],
-    others: &[usize],
+    others: &[u32],
 ) -> Option<Found>
     requires members { All HasFewMembers all.now }
     requires few { length all.now < 2 ^ 32 }
@@ -273,7 +273,7 @@ pub(crate) fn first_field(
     all: &[Outline],
     name: &[u8],
     descriptor: &[u8],
-    places: &[usize],
+    places: &[u32],
 ) -> Option<(u32, u32)>
     requires members { All HasFewMembers all.now }
     requires few { length all.now < 2 ^ 32 }
@@ -281,8 +281,8 @@ pub(crate) fn first_field(
     ensures { result ≡ first_field (field_at all.now name.now descriptor.now) places.now }
 {
     for place in places {
-        if let Some(at) = field_at(all, name, descriptor, *place) {
-            return Some((*place as u32, at));
+        if let Some(at) = field_at(all, name, descriptor, *place as usize) {
+            return Some((*place, at));
         }
     }
     None

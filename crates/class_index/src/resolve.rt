@@ -65,7 +65,7 @@ impl Index {
         self.all.as_slice()
     }
 
-    pub(crate) fn superclasses(&self) -> &[Option<usize>]
+    pub(crate) fn superclasses(&self) -> &[Option<u32>]
         ensures value { result.now ≡ supers (all_of self.now) }
         ensures same { length result.now ≡ length (all_of self.now) }
         ensures within { AreSupers (length (all_of self.now)) result.now }

@@ -49,7 +49,7 @@ fn the_only(own: usize, choice: Choice) -> Selected
 fn overriding(
     own: usize,
     all: &[Outline],
-    supers: &[Option<usize>],
+    supers: &[Option<u32>],
     above: &[Places],
     name: &[u8],
     descriptor: &[u8],

@@ -7,11 +7,11 @@ use crate::index::Index;
 use class_model::ClassId;
 use jvm_tables::external_at;
 
-pub(crate) fn contains(places: &[usize], place: usize) -> bool
+pub(crate) fn contains(places: &[u32], place: usize) -> bool
     ensures { result ≡ is_among place places.now }
 {
     for other in places {
-        if *other == place {
+        if *other as usize == place {
             return true;
         }
     }

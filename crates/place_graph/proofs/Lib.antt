@@ -1,3 +1,4 @@
+pub mod Covered
 pub mod Marks
 pub mod Searched
 pub mod Settled

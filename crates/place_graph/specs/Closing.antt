@@ -1,6 +1,6 @@
 -- How what is beyond each place becomes known, place by place.
 use Rattle.std.specs.Prelude.{◌≡◌, ℕ, ◌<◌, ◌≤◌, ◌==◌, nat_lt, List, [], ◌∷◌, length, count_by, slice_index, All, IsTrue}
-use Rattle.place_graph.specs.Graphs.{edges_of, is_among, AreWithin, with_place, with_places, beyond}
+use Rattle.place_graph.specs.Graphs.{edges_of, is_among, AreWithin, Reaches, with_place, with_places, beyond}
 
 -- The places that are marked with the round are those that are found; all marks are of this round or an earlier one.
 pub record IsMarking (marks : List ℕ) (round : ℕ) (found : List ℕ) : Type 0 where
@@ -11,6 +11,15 @@ pub record IsMarking (marks : List ℕ) (round : ℕ) (found : List ℕ) : Type 
 abbrev pub gathered : List (List ℕ) → List ℕ → List ℕ → List ℕ
 gathered above found [] = found
 gathered above found (x ∷ xs) = gathered above (with_places (with_place found x) (edges_of above x)) xs
+
+-- Whatever is reached from a place that is found is found.
+abbrev pub IsFull : List (List ℕ) → List ℕ → Type 0
+IsFull graph found = (y z : ℕ) → IsTrue (is_among y found) → Reaches graph y z → IsTrue (is_among z found)
+
+-- What is listed for a place is all that is reached from it.
+pub record IsListed (graph above : List (List ℕ)) (place : ℕ) : Type 0 where
+  pub only : (z : ℕ) → IsTrue (is_among z (edges_of above place)) → Reaches graph place z
+  pub each : (z : ℕ) → Reaches graph place z → IsTrue (is_among z (edges_of above place))
 
 -- A place is known once it has a rank, from 1: its edges lead to places of lesser ranks.
 pub record IsKnown (graph above : List (List ℕ)) (ranks : List ℕ) (known place : ℕ) : Type 0 where

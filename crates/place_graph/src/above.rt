@@ -1,14 +1,15 @@
 //! What is beyond each place of a graph without cycles: depth first, each place once.
 
 ghost use Rattle.std.specs.Prelude.{◌≡◌, ℕ, ◌+◌, ◌<◌, ◌≤◌, [], length, slice_index, All, List, OnOk, IfOk, MatchBool, IsTrue, replicate};
+ghost use Rattle.std.specs.Bool.{OnTrue};
 ghost use Rattle.place_graph.specs.Graphs.{edges_of, is_among, AreWithin, IsGraph, with_place, with_places};
-ghost use Rattle.place_graph.specs.Closing.{IsMarking, gathered, IsClosing, IsFresh, StaysAt, IsWaiting, AllWait};
+ghost use Rattle.place_graph.specs.Closing.{IsMarking, gathered, IsFull, IsListed, IsClosing, IsFresh, StaysAt, IsWaiting, AllWait};
 
 use sqlite_items::Items;
 use std::alloc::{AllocError, Global};
 
 /// The places to which the edges of one place lead, or what is beyond it.
-pub type Places = Items<usize>;
+pub type Places = Items<u32>;
 
 /// Adds a place, unless its mark says that it was found in this round.
 #[tactic(auto, using(crate::proofs::Marks::found_before, crate::proofs::Marks::marked_now))]
@@ -16,18 +17,18 @@ fn add_place(
     found: &mut Places,
     marks: &mut [usize],
     round: usize,
-    place: usize,
+    place: u32,
 ) -> Result<(), AllocError>
     requires place { place < length marks.old }
     requires marking { IsMarking marks.old round found.old }
     ensures found { OnOk result (found.new ≡ with_place found.old place) }
     ensures marking { OnOk result (IsMarking marks.new round found.new) }
 {
-    if marks[place] == round {
+    if marks[place as usize] == round {
         return Ok(());
     }
     found.push(place)?;
-    marks[place] = round;
+    marks[place as usize] = round;
     Ok(())
 }
 
@@ -35,7 +36,7 @@ fn add_places(
     found: &mut Places,
     marks: &mut [usize],
     round: usize,
-    places: &[usize],
+    places: &[u32],
 ) -> Result<(), AllocError>
     requires places { AreWithin (length marks.old) places.now }
     requires marking { IsMarking marks.old round found.old }
@@ -48,36 +49,79 @@ fn add_places(
     Ok(())
 }
 
+fn all_found(marks: &[usize], round: usize, places: &[u32]) -> bool
+    requires { AreWithin (length marks.now) places.now }
+    ensures { OnTrue result ((x : ℕ) → IsTrue (is_among x places.now) → slice_index marks.now x ≡ round) }
+{
+    for place in places {
+        if marks[*place as usize] != round {
+            return false;
+        }
+    }
+    true
+}
+
+/// Adds a place, and what is beyond it. That was all found before, if its edges lead to places that were found.
+fn add_reached(
+    graph: &[Places],
+    above: &[Places],
+    found: &mut Places,
+    marks: &mut [usize],
+    round: usize,
+    place: u32,
+) -> Result<(), AllocError>
+    requires graph { IsGraph graph.now }
+    requires all { length marks.old ≡ length graph.now }
+    requires rows { length above.now ≡ length graph.now }
+    requires above { All (AreWithin (length graph.now)) above.now }
+    requires place { place < length graph.now }
+    requires listed { IsListed graph.now above.now place }
+    requires marking { IsMarking marks.old round found.old }
+    requires full { IsFull graph.now found.old }
+    ensures found { OnOk result (found.new ≡ with_places (with_place found.old place) (edges_of above.now place)) }
+    ensures marking { OnOk result (IsMarking marks.new round found.new) }
+    ensures full { OnOk result (IsFull graph.now found.new) }
+{
+    if all_found(marks, round, graph[place as usize].as_slice()) {
+        return add_place(found, marks, round, place);
+    }
+    add_place(found, marks, round, place)?;
+    add_places(found, marks, round, above[place as usize].as_slice())
+}
+
 /// Each of the places, and after it what is beyond it.
 fn gather(
     alloc: Global,
+    graph: &[Places],
     above: &[Places],
     marks: &mut [usize],
     round: usize,
-    places: &[usize],
+    places: &[u32],
 ) -> Result<Places, AllocError>
-    requires rows { length above.now ≡ length marks.old }
-    requires above { All (AreWithin (length marks.old)) above.now }
-    requires places { AreWithin (length marks.old) places.now }
+    requires graph { IsGraph graph.now }
+    requires all { length marks.old ≡ length graph.now }
+    requires rows { length above.now ≡ length graph.now }
+    requires above { All (AreWithin (length graph.now)) above.now }
+    requires places { AreWithin (length graph.now) places.now }
+    requires listed { (x : ℕ) → IsTrue (is_among x places.now) → IsListed graph.now above.now x }
     requires marking { IsMarking marks.old round [] }
     ensures found { IfOk result (λ found. found ≡ gathered above.now [] places.now) }
     ensures marking { IfOk result (λ found. IsMarking marks.new round found) }
 {
     let mut found = Items::new(alloc);
     for place in places {
-        add_place(&mut found, marks, round, *place)?;
-        add_places(&mut found, marks, round, above[*place].as_slice())?;
+        add_reached(graph, above, &mut found, marks, round, *place)?;
     }
-    Ok(found)
+    Items::from_slice(alloc, found.as_slice())
 }
 
-fn all_known(ranks: &[usize], places: &[usize]) -> bool
+fn all_known(ranks: &[usize], places: &[u32]) -> bool
     requires { AreWithin (length ranks.now) places.now }
     ensures { MatchBool result ((x : ℕ) → IsTrue (is_among x places.now) → 0 < slice_index ranks.now x)
         ((x : ℕ) × IsTrue (is_among x places.now) × (slice_index ranks.now x ≡ 0)) }
 {
     for place in places {
-        if ranks[*place] == 0 {
+        if ranks[*place as usize] == 0 {
             return false;
         }
     }
@@ -112,6 +156,7 @@ fn settle(
     let round = known + 1;
     let found = gather(
         alloc,
+        graph,
         above.as_slice(),
         marks,
         round,

@@ -9,19 +9,19 @@ use std::alloc::{AllocError, Global};
 
 #[tactic(auto, using(crate::proofs::Searched::mark_none))]
 /// Marks a place. One that wasn't marked before is to be looked at.
-fn mark(marks: &mut [bool], queue: &mut Vec<usize>, place: usize) -> Result<(), AllocError>
+fn mark(marks: &mut [bool], queue: &mut Vec<u32>, place: u32) -> Result<(), AllocError>
     requires { place < length marks.old }
     ensures { OnOk result (MarksAll marks.old queue.old.items (place ∷ []) marks.new queue.new.items) }
 {
-    if marks[place] {
+    if marks[place as usize] {
         return Ok(());
     }
     queue.push(place)?;
-    marks[place] = true;
+    marks[place as usize] = true;
     Ok(())
 }
 
-fn mark_all(marks: &mut [bool], queue: &mut Vec<usize>, places: &[usize]) -> Result<(), AllocError>
+fn mark_all(marks: &mut [bool], queue: &mut Vec<u32>, places: &[u32]) -> Result<(), AllocError>
     requires { AreWithin (length marks.old) places.now }
     ensures { OnOk result (MarksAll marks.old queue.old.items places.now marks.new queue.new.items) }
 {
@@ -46,7 +46,7 @@ fn search(
     let mut queue = Vec::new(alloc);
     mark_all(marks, &mut queue, graph[from].as_slice())?;
     while let Some(place) = queue.pop() {
-        mark_all(marks, &mut queue, graph[place].as_slice())?;
+        mark_all(marks, &mut queue, graph[place as usize].as_slice())?;
     }
     Ok(())
 }
