@@ -8,7 +8,7 @@ use Rattle.jvm_tables.specs.declared.instruction.ValueKind.TheVariants.{Referenc
 use Rattle.class_model.specs.Descriptors.{FieldType, array, field_type_at, field_types_at, with_first, behind, return_type, MethodType}
 use Rattle.class_model.specs.TypeForms.{arrays}
 use Rattle.class_model.proofs.Parameters.{then_types, types_end, types_step, types_of, shorter}
-use Rattle.class_code.specs.Types.{kind, Signature, signature, after, result_of, read}
+use Rattle.class_code.specs.Types.{kind, Signature, signature, after, object_name, result_of, read}
 use Rattle.class_code.specs.Sites.{is_object, is_string}
 use Rattle.class_code.specs.declared.types.Returned.{Returned}
 
@@ -24,6 +24,9 @@ array-kind = array_at kind (Some Reference) (λ t. refl)
 
 pub array-is_object : (n : ℕ) (t : FieldType) → 0 < n → is_object (arrays n t) ≡ false
 array-is_object = array_at is_object false (λ t. refl)
+
+pub array-object_name : (n : ℕ) (t : FieldType) → 0 < n → object_name (arrays n t) ≡ None
+array-object_name = array_at object_name None (λ t. refl)
 
 pub array-is_string : (n : ℕ) (t : FieldType) → 0 < n → is_string (arrays n t) ≡ false
 array-is_string = array_at is_string false (λ t. refl)
@@ -112,3 +115,46 @@ pub nothing_left : (kinds : List ValueKind) (bytes : List ℕ) → length bytes 
 unfolding field_types_at
 nothing_left kinds [] e = refl
 nothing_left kinds (b ∷ bytes) e = absurd (omega arith)
+
+-- The result alone is read without the kinds.
+abbrev results : Option (List FieldType × List ℕ) → Option (Option FieldType)
+results found = option_map (λ (m : MethodType). m.returned) (option_and_then behind found)
+
+abbrev pub result_on : List ℕ → Option (Option FieldType)
+result_on bytes = results (types_of bytes)
+
+result_ends : (found : Option Returned) (after : List ℕ) → option_map result_of found ≡ return_type after
+    → option_map result_of found ≡ results (Some ([], after))
+result_ends None after e = rw (← e) refl
+result_ends (Some r) after e = rw (← e) refl
+
+pub result_closing : (found : Option Returned) (bytes after : List ℕ) (b : ℕ) → bytes ≡ b ∷ after → b ≡ 41
+    → option_map result_of found ≡ return_type after → option_map result_of found ≡ result_on bytes
+result_closing found bytes after b at is e =
+    result_ends found after e
+    ∙ sym (ap result_on (at ∙ ap (λ c. c ∷ after) is) ∙ ap results (types_end (length (41 ∷ after)) after))
+
+pub no_result_there : (bytes after : List ℕ) (b : ℕ) → bytes ≡ b ∷ after → (b ≡ 41 → ⊥) → field_type_at bytes ≡ None → result_on bytes ≡ None
+no_result_there bytes after b at not e = ap results (step bytes after b at not ∙ ap (then_types (field_types_at (length after))) e)
+
+result_behind : (t : FieldType) (found : Option (List FieldType × List ℕ)) → results (option_map (with_first t) found) ≡ results found
+result_behind t None = refl
+result_behind t (Some (types, rest)) = in_result (return_type rest)
+  where
+    in_result : (o : Option (Option FieldType)) → option_map (λ (m : MethodType). m.returned) (option_map (λ r. record { parameters = t ∷ types; returned = r }) o)
+        ≡ option_map (λ (m : MethodType). m.returned) (option_map (λ r. record { parameters = types; returned = r }) o)
+    in_result None = refl
+    in_result (Some r) = refl
+
+pub result_passed : (bytes after more : List ℕ) (b : ℕ) (t : FieldType) → bytes ≡ b ∷ after → (b ≡ 41 → ⊥) → field_type_at bytes ≡ Some (t, more)
+    → result_on bytes ≡ result_on more
+result_passed bytes after more b t at not e =
+    let less : length more ≤ length after = omega (arith, shorter bytes t more e, ap length at) in
+    ap results (step bytes after b at not ∙ ap (then_types (field_types_at (length after))) e)
+    ∙ result_behind t (field_types_at (length after) more)
+    ∙ ap results (enough (length after) (length more) more less (omega arith))
+
+pub no_result_left : (bytes : List ℕ) → length bytes ≡ 0 → result_on bytes ≡ None
+unfolding field_types_at
+no_result_left [] e = refl
+no_result_left (b ∷ bytes) e = absurd (omega arith)

@@ -6,5 +6,8 @@ pub mod Laws
 pub mod Named
 pub mod Operands
 pub mod Parts
+pub mod Rows
+pub mod Seen
 pub mod Sites
 pub mod Types
+pub mod Uses

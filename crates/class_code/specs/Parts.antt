@@ -1,6 +1,4 @@
 -- What the code keeps of constants and call sites, by its texts.
-use Rattle.std.specs.Prelude.{List}
-use Rattle.jvm_tables.specs.declared.instruction.ValueKind.{ValueKind}
 use Rattle.class_model.specs.declared.identifiers.MemberRef.{MemberRef}
 use Rattle.class_code.specs.declared.named.MemberView.{MemberView}
 use Rattle.class_code.specs.declared.named.HandleView.{HandleView}

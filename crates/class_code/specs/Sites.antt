@@ -14,7 +14,7 @@ use Rattle.class_model.specs.declared.constant_pool.Constant.{Constant}
 use Rattle.class_model.specs.declared.constant_pool.Constant.TheVariants as constants
 use Rattle.class_model.specs.Constants.{constant_at, text_at, is_some_that}
 use Rattle.class_model.specs.Descriptors.{FieldType, object, method_type}
-use Rattle.class_code.specs.Types.{Signature, signature_of, gives}
+use Rattle.class_code.specs.Types.{Signature, signature_of, gives, object_name, result_type}
 use Rattle.class_code.specs.Constants.{constant_of, name_at, descriptor_at}
 use Rattle.class_code.specs.Bootstraps.{bootstrap_at, metafactory, concatenating, is_bootstrap_by}
 use Rattle.class_code.specs.Named.{HandleRef, handle_at, method_type_at}
@@ -42,13 +42,9 @@ pub data Site : Type 0 where
 abbrev pub captured : LambdaSite → List FieldType
 captured l = unwrap_or (option_map (λ m. m.parameters) (method_type l.descriptor)) []
 
-abbrev pub object_name : FieldType → Option (List ℕ)
-object_name (object name) = Some name
-object_name _ = None
-
 -- the class that a method's type gives, where it gives one that is no array
 abbrev pub class_given : List ℕ → Option (List ℕ)
-class_given descriptor = option_and_then object_name (option_and_then (λ m. m.returned) (method_type descriptor))
+class_given descriptor = option_and_then (option_and_then object_name) (result_type descriptor)
 
 -- the interface that a lambda has
 abbrev pub interface : LambdaSite → Option (List ℕ)

@@ -23,6 +23,15 @@ kind (array component) = Some Reference
 abbrev pub kind_of : List ℕ → Option ValueKind
 kind_of descriptor = option_and_then kind (field_type descriptor)
 
+-- the name of a class that is no array
+abbrev pub object_name : FieldType → Option (List ℕ)
+object_name (object name) = Some name
+object_name _ = None
+
+-- the result of the method type that a descriptor spells, which is None for void
+abbrev pub result_type : List ℕ → Option (Option FieldType)
+result_type descriptor = option_map (λ m. m.returned) (method_type descriptor)
+
 -- a method's type by the kinds that it takes, in order, and the type of its result, which is None for void
 pub record Signature : Type 0 where
   pub takes : List ValueKind

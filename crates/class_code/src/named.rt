@@ -143,7 +143,7 @@ fn with_member<'a>(pool: &'a Pool, constant: &Constant) -> Option<NamedView<'a>>
     }
 }
 
-fn named_of<'a>(pool: &'a Pool, constant: &Constant) -> Option<NamedView<'a>>
+pub(crate) fn named_of<'a>(pool: &'a Pool, constant: &Constant) -> Option<NamedView<'a>>
     ensures { option_map named result ≡ named_of pool.now constant.now }
 {
     match constant {

@@ -8,6 +8,7 @@ ghost use Rattle.class_code.specs.Parts.{lambda_site, concatenation_site, site};
 use crate::bootstraps::{bootstrap_at, is_concatenating, is_metafactory};
 use crate::constants::{descriptor_at, name_at};
 use crate::named::{HandleView, handle_at, method_type_at};
+use crate::types::returned_of;
 use class_model::{Bootstrap, Class, Constant, Pool};
 
 /// A lambda's site. Its descriptor takes the captured values and gives the interface.
@@ -21,6 +22,22 @@ pub struct LambdaView<'a> {
     pub implementing: HandleView<'a>,
     /// The type that the interface's method has at this site.
     pub instantiated: &'a [u8],
+}
+
+impl<'a> LambdaView<'a> {
+    ghost use Rattle.std.specs.Prelude.{◌≡◌, option_copied};
+    ghost use Rattle.class_code.specs.Parts.{lambda_site};
+    ghost use Rattle.class_code.specs.Sites.{interface};
+
+    /// The interface that the lambda has.
+    pub fn interface(self) -> Option<&'a [u8]>
+        ensures { option_copied result ≡ interface (lambda_site self.entry) }
+    {
+        match returned_of(self.descriptor) {
+            Some(returned) => returned.class(),
+            None => None,
+        }
+    }
 }
 
 /// A concatenation's site. Its descriptor takes the arguments; its constants are by their numbers.

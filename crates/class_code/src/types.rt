@@ -1,9 +1,9 @@
 //! What descriptors say of the kinds of values (JVMS 4.3).
 
-ghost use Rattle.std.specs.Prelude.{◌≡◌, OnOk, IfOk, ◌++◌, length, option_map, option_and_then, option_to_list};
+ghost use Rattle.std.specs.Prelude.{◌≡◌, OnOk, IfOk, ◌++◌, length, option_copied, option_map, option_and_then, option_to_list};
 ghost use Rattle.class_model.specs.Descriptors.{return_type, field_types_at, behind};
 ghost use Rattle.class_model.specs.TypeForms.{type_of};
-ghost use Rattle.class_code.specs.Types.{is_float_letter, kind, kind_of, has_float, result_of, read, after, signature, signature_of};
+ghost use Rattle.class_code.specs.Types.{is_float_letter, kind, kind_of, has_float, object_name, result_of, result_type, read, after, signature, signature_of};
 
 use class_model::{TypeForm, field_type_in};
 use jvm_tables::ValueKind;
@@ -68,6 +68,19 @@ pub fn has_float(descriptor: &[u8]) -> bool
     false
 }
 
+fn class_of<'a>(form: TypeForm<'a>) -> Option<&'a [u8]>
+    ensures { option_copied result ≡ object_name (type_of form.entry) }
+{
+    if form.dimensions > 0 {
+        return None;
+    }
+    if form.letter == b'L' {
+        Some(form.class)
+    } else {
+        None
+    }
+}
+
 #[tactic(auto, unfolding(class_model::specs::Descriptors::field_type))]
 fn returned_in(bytes: &[u8]) -> Option<Returned<'_>>
     ensures { option_map result_of result ≡ return_type bytes.now }
@@ -83,7 +96,17 @@ fn returned_in(bytes: &[u8]) -> Option<Returned<'_>>
     }
 }
 
-impl Returned<'_> {
+impl<'a> Returned<'a> {
+    /// The class of the result, where it is of one and of no array.
+    pub fn class(self) -> Option<&'a [u8]>
+        ensures { option_copied result ≡ option_and_then object_name (result_of self.entry) }
+    {
+        match self.form {
+            Some(form) => class_of(form),
+            None => None,
+        }
+    }
+
     /// The kind of the result. A void, a float and a double have none.
     pub fn kind(self) -> Option<ValueKind>
         ensures { result ≡ option_and_then kind (result_of self.entry) }
@@ -144,5 +167,33 @@ pub fn read_kinds<'a>(
     match descriptor.split_first() {
         Some((b'(', rest)) => parameters_in(rest, kinds),
         _ => Ok(None),
+    }
+}
+
+/// The result behind the parameters.
+fn returned_behind(bytes: &[u8]) -> Option<Returned<'_>>
+    ensures { option_map result_of result ≡ option_map (λ m. m.returned) (option_and_then behind (field_types_at (length bytes.now) bytes.now)) }
+{
+    let mut rest = bytes;
+    while let Some((first, after)) = rest.split_first() {
+        if *first == b')' {
+            return returned_in(after);
+        }
+        match field_type_in(rest) {
+            None => return None,
+            Some((_, more)) => rest = more,
+        }
+    }
+    None
+}
+
+/// The result that a method's descriptor tells. `None` where the text is no method's descriptor.
+#[tactic(auto, unfolding(class_model::specs::Descriptors::method_type))]
+pub fn returned_of(descriptor: &[u8]) -> Option<Returned<'_>>
+    ensures { option_map result_of result ≡ result_type descriptor.now }
+{
+    match descriptor.split_first() {
+        Some((b'(', rest)) => returned_behind(rest),
+        _ => None,
     }
 }
