@@ -1,6 +1,7 @@
 pub mod Built
 pub mod Climbs
 pub mod DeclarationLemmas
+pub mod ExternalNames
 pub mod FactLemmas
 pub mod Inherits
 pub mod Leasts

@@ -1,4 +1,5 @@
 pub mod Added
+pub mod Apart
 pub mod Below
 pub mod Declarations
 pub mod Facts
@@ -6,6 +7,7 @@ pub mod Faults
 pub mod Hierarchy
 pub mod Indexed
 pub mod Inherited
+pub mod Initialisation
 pub mod Least
 pub mod Lookups
 pub mod Members

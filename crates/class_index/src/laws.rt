@@ -1,11 +1,17 @@
 //! What holds of subtyping, resolution and selection.
 
-ghost use Rattle.std.specs.Prelude.{◌≡◌, ℕ, List, Some};
+ghost use Rattle.std.specs.Prelude.{◌≡◌, ℕ, List, Some, IsSome, slice_get};
 ghost use Rattle.class_model.specs.declared.identifiers.ClassId.{ClassId};
 ghost use Rattle.class_model.specs.declared.identifiers.MemberId.{MemberId};
 ghost use Rattle.class_index.specs.declared.outline.Outline.{Outline};
 ghost use Rattle.class_index.specs.declared.select.Selected.TheVariants as selected;
+ghost use Rattle.class_model.specs.declared.identifiers.ClassId.TheVariants.{Outer};
+ghost use Rattle.jvm_tables.specs.Externals.{External, externals};
+ghost use Rattle.class_index.specs.Apart.{HasNoExternal};
 ghost use Rattle.class_index.specs.Declarations.{IsMethodId};
+ghost use Rattle.class_index.specs.Facts.{class_named};
+ghost use Rattle.jvm_tables.specs.Callbacks.{called_back};
+ghost use Rattle.jvm_tables.specs.declared.natives.Callback.{Callback};
 ghost use Rattle.class_index.specs.Hierarchy.{IsClassId};
 ghost use Rattle.class_index.specs.Inherited.{IsInheritedField, IsInheritedMethod, IsSelection};
 ghost use Rattle.class_index.specs.Resolution.{resolve_field, resolve_method};
@@ -43,4 +49,14 @@ pub fn resolved_methods_are_inherited()
 /// receiver or of one of the receiver's supers or superinterfaces, and is neither private nor static nor abstract.
 pub fn selected_methods_override()
     ensures { (classes : List Outline) (resolved id : MemberId) (receiver : ClassId) → select classes resolved receiver ≡ selected.Found id → IsSelection classes resolved receiver id }
+{}
+
+/// Where no class of the program has the name of an external one, each external name is that of its row.
+pub fn external_names_are_rows()
+    ensures { (classes : List Outline) (row : ℕ) (r : External) → HasNoExternal classes → slice_get externals row ≡ Some r → class_named classes r.class ≡ Some (Outer row) }
+{}
+
+/// Where no class of the program has the name of an external one, each method that a native calls back resolves.
+pub fn callbacks_resolve()
+    ensures { (classes : List Outline) (callback : Callback) → HasNoExternal classes → IsSome (resolve_method classes (called_back callback).class (called_back callback).name (called_back callback).descriptor) }
 {}

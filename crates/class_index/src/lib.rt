@@ -21,8 +21,9 @@ mod targets;
 pub use fault::IndexFault;
 pub use index::Index;
 pub use laws::{
-    methods_stand_in_classes, resolved_fields_are_inherited, resolved_methods_are_inherited,
-    selected_methods_override, subtyping_is_reflexive, subtyping_is_transitive,
+    callbacks_resolve, external_names_are_rows, methods_stand_in_classes,
+    resolved_fields_are_inherited, resolved_methods_are_inherited, selected_methods_override,
+    subtyping_is_reflexive, subtyping_is_transitive,
 };
 pub use lookup::Found;
 pub use members::{ABSTRACT_AT, Method, MethodView};
