@@ -293,6 +293,19 @@ rm classes/A.class
 set_byte classes/B.class 118 141
 expect "an input whose file is gone" 3 "build: unknown input a of b" -j 1 show b
 
+# The sources that builds compile against have the methods of the tables, and compile.
+if command -v python3 >/dev/null; then
+    python3 -B "$top/scripts/compare_api.py" >"$work/api" || {
+        cat "$work/api"
+        failed=1
+    }
+else
+    echo "api: not compared, no python3"
+fi
+if command -v javac >/dev/null; then
+    javac -Xlint:all -Werror -d "$work/compiled" "$top"/api/mill/*.java || failed=1
+fi
+
 if [ "$failed" = 0 ]; then
     echo "end to end: passed"
 fi
