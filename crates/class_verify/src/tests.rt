@@ -3,9 +3,9 @@
 mod rows;
 
 use crate::cause::Cause;
-use crate::verification::{self, code_misfit, code_of};
+use crate::verification::code_misfit;
 use crate::walk::Buffers;
-use class_code::{SiteKinds, Use};
+use class_code::{SiteKinds, Use, code_of};
 use class_model::{Attribute, Class, Constant, FrameType, Handler, Member, Pool, Raw, StackFrame};
 use sqlite_items::Items;
 use std::alloc::{AllocError, Global};
@@ -582,7 +582,7 @@ fn misfit(
     };
     if code.code.is_empty()
         || code.code.len() > 65535
-        || verification::stack_map(code.attributes).len() > 65535
+        || class_code::stack_map(code.attributes).len() > 65535
     {
         return Err(AllocError);
     }
