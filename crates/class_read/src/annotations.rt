@@ -9,13 +9,12 @@ ghost use Rattle.class_read.specs.Faults.{Gives};
 use crate::class_fault::ClassFault;
 use crate::numbers::{place_of, u1_in, u2_in};
 use crate::targets::{result_in, text_in, type_in, value_in};
-use class_model::{Element, Elements, Note, Notes, Pair, Pairs, Pool};
+use class_model::{Element, Elements, GREATEST_DEPTH, Note, Notes, Pair, Pairs};
+use const_pool::JudgedPool;
 use sqlite_items::Items;
 use std::alloc::Global;
 
 /// The values of annotations nest at most so deep.
-const GREATEST_DEPTH: u8 = 64;
-
 fn is_constant_tag(tag: u8) -> bool
     ensures { result ≡ is_constant_tag tag }
 {
@@ -26,7 +25,11 @@ fn is_constant_tag(tag: u8) -> bool
 }
 
 #[tactic(auto, unfolding(class_text::specs::Elements::enum_at))]
-fn enum_in<'a>(pool: &Pool, end: u32, bytes: &'a [u8]) -> Result<(Element, &'a [u8]), ClassFault>
+fn enum_in<'a>(
+    pool: &JudgedPool,
+    end: u32,
+    bytes: &'a [u8],
+) -> Result<(Element, &'a [u8]), ClassFault>
     ensures { Gives (λ r. (r.0, r.1.now)) result (enum_at pool.now end bytes.now) }
 {
     let (kind, rest) = type_in(pool, end, bytes)?;
@@ -39,7 +42,7 @@ fn enum_in<'a>(pool: &Pool, end: u32, bytes: &'a [u8]) -> Result<(Element, &'a [
 #[tactic(auto, unfolding(class_text::specs::Elements::element_at))]
 fn element_in<'a>(
     alloc: Global,
-    pool: &Pool,
+    pool: &JudgedPool,
     at: u32,
     depth: u8,
     end: u32,
@@ -68,7 +71,7 @@ fn element_in<'a>(
 #[tactic(auto, unfolding(class_text::specs::Elements::tagged_by))]
 fn tagged_in<'a>(
     alloc: Global,
-    pool: &Pool,
+    pool: &JudgedPool,
     at: u32,
     depth: u8,
     place: u32,
@@ -105,7 +108,7 @@ fn tagged_in<'a>(
 #[tactic(auto, unfolding(class_text::specs::Elements::note_by))]
 fn note_in<'a>(
     alloc: Global,
-    pool: &Pool,
+    pool: &JudgedPool,
     at: u32,
     depth: u8,
     end: u32,
@@ -122,7 +125,7 @@ fn note_in<'a>(
 #[tactic(auto, unfolding(class_text::specs::Readers::counted_after))]
 fn counted_pairs_in<'a>(
     alloc: Global,
-    pool: &Pool,
+    pool: &JudgedPool,
     at: u32,
     depth: u8,
     end: u32,
@@ -138,7 +141,7 @@ fn counted_pairs_in<'a>(
 #[cycle(element)]
 fn pairs_in<'a>(
     alloc: Global,
-    pool: &Pool,
+    pool: &JudgedPool,
     at: u32,
     depth: u8,
     count: u16,
@@ -165,7 +168,7 @@ fn pairs_in<'a>(
 #[tactic(auto, unfolding(class_text::specs::Elements::pair_by))]
 fn pair_in<'a>(
     alloc: Global,
-    pool: &Pool,
+    pool: &JudgedPool,
     at: u32,
     depth: u8,
     end: u32,
@@ -182,7 +185,7 @@ fn pair_in<'a>(
 #[tactic(auto, unfolding(class_text::specs::Readers::counted_after))]
 fn counted_elements_in<'a>(
     alloc: Global,
-    pool: &Pool,
+    pool: &JudgedPool,
     at: u32,
     depth: u8,
     end: u32,
@@ -198,7 +201,7 @@ fn counted_elements_in<'a>(
 #[cycle(element)]
 fn elements_in<'a>(
     alloc: Global,
-    pool: &Pool,
+    pool: &JudgedPool,
     at: u32,
     depth: u8,
     count: u16,
@@ -225,7 +228,7 @@ fn elements_in<'a>(
 #[tactic(auto, unfolding(class_text::specs::Elements::note_at))]
 fn annotation_in<'a>(
     alloc: Global,
-    pool: &Pool,
+    pool: &JudgedPool,
     at: u32,
     end: u32,
     bytes: &'a [u8],
@@ -238,7 +241,7 @@ fn annotation_in<'a>(
 /// So many annotations.
 fn some_annotations_in<'a>(
     alloc: Global,
-    pool: &Pool,
+    pool: &JudgedPool,
     at: u32,
     count: u16,
     end: u32,
@@ -264,7 +267,7 @@ fn some_annotations_in<'a>(
 #[tactic(auto, unfolding(class_text::specs::Readers::counted_after))]
 pub(crate) fn annotations_in<'a>(
     alloc: Global,
-    pool: &Pool,
+    pool: &JudgedPool,
     at: u32,
     end: u32,
     bytes: &'a [u8],

@@ -15,12 +15,17 @@ use crate::frames::frames_in;
 use crate::numbers::{place_of, run_in, u2_in, u4_in};
 use crate::stands::{Found, Stand, is_known, own_name};
 use crate::targets::{caught_in, field_value_in, handle_in, loadable_in, text_in};
-use class_model::{Attribute, Attributes, Bootstrap, Bootstraps, Handler, Handlers, Indices, Pool};
+use class_model::{Attribute, Attributes, Bootstrap, Bootstraps, Handler, Handlers, Indices};
+use const_pool::JudgedPool;
 use sqlite_items::Items;
 use std::alloc::Global;
 
 #[tactic(auto, unfolding(class_text::specs::Attributes::handler_at))]
-fn handler_in<'a>(pool: &Pool, end: u32, bytes: &'a [u8]) -> Result<(Handler, &'a [u8]), ClassFault>
+fn handler_in<'a>(
+    pool: &JudgedPool,
+    end: u32,
+    bytes: &'a [u8],
+) -> Result<(Handler, &'a [u8]), ClassFault>
     ensures { Gives (λ r. (r.0, r.1.now)) result (handler_at pool.now end bytes.now) }
 {
     let (start, rest) = u2_in(end, bytes)?;
@@ -39,7 +44,7 @@ fn handler_in<'a>(pool: &Pool, end: u32, bytes: &'a [u8]) -> Result<(Handler, &'
 /// So many entries of an exception table.
 fn handlers_in<'a>(
     alloc: Global,
-    pool: &Pool,
+    pool: &JudgedPool,
     count: u16,
     end: u32,
     bytes: &'a [u8],
@@ -63,7 +68,7 @@ fn handlers_in<'a>(
 #[tactic(auto, unfolding(class_text::specs::Readers::counted_after))]
 fn table_in<'a>(
     alloc: Global,
-    pool: &Pool,
+    pool: &JudgedPool,
     end: u32,
     bytes: &'a [u8],
 ) -> Result<(Handlers, &'a [u8]), ClassFault>
@@ -76,7 +81,7 @@ fn table_in<'a>(
 /// So many static arguments.
 fn arguments_in<'a>(
     alloc: Global,
-    pool: &Pool,
+    pool: &JudgedPool,
     count: u16,
     end: u32,
     bytes: &'a [u8],
@@ -100,7 +105,7 @@ fn arguments_in<'a>(
 #[tactic(auto, unfolding(class_text::specs::Readers::counted_after))]
 fn counted_arguments_in<'a>(
     alloc: Global,
-    pool: &Pool,
+    pool: &JudgedPool,
     end: u32,
     bytes: &'a [u8],
 ) -> Result<(Indices, &'a [u8]), ClassFault>
@@ -113,7 +118,7 @@ fn counted_arguments_in<'a>(
 #[tactic(auto, unfolding(class_text::specs::Attributes::bootstrap_at))]
 fn bootstrap_in<'a>(
     alloc: Global,
-    pool: &Pool,
+    pool: &JudgedPool,
     end: u32,
     bytes: &'a [u8],
 ) -> Result<(Bootstrap, &'a [u8]), ClassFault>
@@ -127,7 +132,7 @@ fn bootstrap_in<'a>(
 /// So many bootstrap methods.
 fn bootstraps_in<'a>(
     alloc: Global,
-    pool: &Pool,
+    pool: &JudgedPool,
     count: u16,
     end: u32,
     bytes: &'a [u8],
@@ -151,7 +156,7 @@ fn bootstraps_in<'a>(
 #[tactic(auto, unfolding(class_text::specs::Readers::counted_after))]
 fn counted_bootstraps_in<'a>(
     alloc: Global,
-    pool: &Pool,
+    pool: &JudgedPool,
     end: u32,
     bytes: &'a [u8],
 ) -> Result<(Bootstraps, &'a [u8]), ClassFault>
@@ -183,7 +188,7 @@ fn other_in(
 #[tactic(auto, unfolding(class_text::specs::Attributes::stack_map_at))]
 fn stack_map_in<'a>(
     alloc: Global,
-    pool: &Pool,
+    pool: &JudgedPool,
     name: u16,
     end: u32,
     bytes: &'a [u8],
@@ -196,7 +201,7 @@ fn stack_map_in<'a>(
 
 #[tactic(auto, unfolding(class_text::specs::Attributes::constant_value_at))]
 fn constant_value_in<'a>(
-    pool: &Pool,
+    pool: &JudgedPool,
     descriptor: &[u8],
     name: u16,
     end: u32,
@@ -211,7 +216,7 @@ fn constant_value_in<'a>(
 #[tactic(auto, unfolding(class_text::specs::Attributes::bootstraps_at))]
 fn bootstrap_methods_in<'a>(
     alloc: Global,
-    pool: &Pool,
+    pool: &JudgedPool,
     name: u16,
     end: u32,
     bytes: &'a [u8],
@@ -226,7 +231,7 @@ fn bootstrap_methods_in<'a>(
 #[tactic(auto, unfolding(class_text::specs::Attributes::annotations_at))]
 fn visible_annotations_in<'a>(
     alloc: Global,
-    pool: &Pool,
+    pool: &JudgedPool,
     name: u16,
     at: u32,
     end: u32,
@@ -248,7 +253,7 @@ fn is_named(text: &[u8], name: &[u8]) -> bool
 #[tactic(auto, unfolding(class_text::specs::Attributes::code_content_at))]
 fn code_content_in<'a>(
     alloc: Global,
-    pool: &Pool,
+    pool: &JudgedPool,
     name: u16,
     at: u32,
     end: u32,
@@ -256,7 +261,7 @@ fn code_content_in<'a>(
 ) -> Result<(Attribute, &'a [u8]), ClassFault>
     ensures { Gives (λ r. (r.0, r.1.now)) result (code_content_at pool.now name at end bytes.now) }
 {
-    if is_named(pool.text_or_empty(name), b"StackMapTable") {
+    if is_named(pool.as_pool().text_or_empty(name), b"StackMapTable") {
         return stack_map_in(alloc, pool, name, end, bytes);
     }
     other_in(alloc, name, end, bytes)
@@ -287,7 +292,7 @@ fn whole<'a>(
 /// The name of an attribute, which may stand there.
 #[tactic(auto, unfolding(class_text::specs::Attributes::named_at))]
 fn named_in<'a>(
-    pool: &Pool,
+    pool: &JudgedPool,
     stand: Stand<'_>,
     barred: bool,
     found: &Found,
@@ -298,7 +303,7 @@ fn named_in<'a>(
     ensures { Gives (λ r. (r.0, r.1.now)) result (named_at pool.now (stand_of stand.entry) barred found.now.list end bytes.now) }
 {
     let (name, rest) = text_in(pool, end, bytes)?;
-    let text = pool.text_or_empty(name);
+    let text = pool.as_pool().text_or_empty(name);
     if !found.is_first(pool, stand, text) {
         return Err(ClassFault::SecondAttribute(place_of(end, bytes)));
     }
@@ -311,7 +316,7 @@ fn named_in<'a>(
 #[tactic(auto, unfolding(class_text::specs::Attributes::code_attribute_at, class_text::specs::Attributes::attribute_by, class_text::specs::Readers::within))]
 fn code_attribute_in<'a>(
     alloc: Global,
-    pool: &Pool,
+    pool: &JudgedPool,
     found: &Found,
     end: u32,
     bytes: &'a [u8],
@@ -330,7 +335,7 @@ fn code_attribute_in<'a>(
 /// So many attributes of code.
 fn some_code_attributes_in<'a>(
     alloc: Global,
-    pool: &Pool,
+    pool: &JudgedPool,
     count: u16,
     end: u32,
     bytes: &'a [u8],
@@ -354,7 +359,7 @@ fn some_code_attributes_in<'a>(
 #[tactic(auto, unfolding(class_text::specs::Attributes::code_attributes_at, class_text::specs::Readers::counted_after))]
 fn code_attributes_in<'a>(
     alloc: Global,
-    pool: &Pool,
+    pool: &JudgedPool,
     end: u32,
     bytes: &'a [u8],
 ) -> Result<(Attributes, &'a [u8]), ClassFault>
@@ -383,7 +388,7 @@ fn code_bytes_in(at: u32, end: u32, bytes: &[u8]) -> Result<(&[u8], &[u8]), Clas
 #[tactic(auto, unfolding(class_text::specs::Attributes::code_at))]
 fn code_in<'a>(
     alloc: Global,
-    pool: &Pool,
+    pool: &JudgedPool,
     name: u16,
     at: u32,
     end: u32,
@@ -410,7 +415,7 @@ fn code_in<'a>(
 /// The content under the name that is known in a place alone.
 fn own_content_in<'a>(
     alloc: Global,
-    pool: &Pool,
+    pool: &JudgedPool,
     stand: Stand<'_>,
     name: u16,
     at: u32,
@@ -431,7 +436,7 @@ fn own_content_in<'a>(
 #[tactic(auto, unfolding(class_text::specs::Attributes::content_at))]
 fn content_in<'a>(
     alloc: Global,
-    pool: &Pool,
+    pool: &JudgedPool,
     stand: Stand<'_>,
     name: u16,
     at: u32,
@@ -440,7 +445,7 @@ fn content_in<'a>(
 ) -> Result<(Attribute, &'a [u8]), ClassFault>
     ensures { Gives (λ r. (r.0, r.1.now)) result (content_at pool.now (stand_of stand.entry) name at end bytes.now) }
 {
-    let text = pool.text_or_empty(name);
+    let text = pool.as_pool().text_or_empty(name);
     if is_named(text, own_name(stand)) {
         return own_content_in(alloc, pool, stand, name, at, end, bytes);
     }
@@ -453,7 +458,7 @@ fn content_in<'a>(
 #[tactic(auto, unfolding(class_text::specs::Attributes::attribute_at, class_text::specs::Attributes::attribute_by, class_text::specs::Readers::within))]
 fn attribute_in<'a>(
     alloc: Global,
-    pool: &Pool,
+    pool: &JudgedPool,
     stand: Stand<'_>,
     barred: bool,
     found: &Found,
@@ -474,7 +479,7 @@ fn attribute_in<'a>(
 /// So many attributes of a place. Where code is barred none of them may be code.
 fn some_attributes_in<'a>(
     alloc: Global,
-    pool: &Pool,
+    pool: &JudgedPool,
     stand: Stand<'_>,
     barred: bool,
     count: u16,
@@ -501,7 +506,7 @@ fn some_attributes_in<'a>(
 #[tactic(auto, unfolding(class_text::specs::Attributes::attributes_at, class_text::specs::Readers::counted_after))]
 pub(crate) fn attributes_in<'a>(
     alloc: Global,
-    pool: &Pool,
+    pool: &JudgedPool,
     stand: Stand<'_>,
     barred: bool,
     end: u32,

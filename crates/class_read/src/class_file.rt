@@ -18,8 +18,8 @@ use crate::members::{fields_in, methods_in};
 use crate::numbers::{place_of, u2_in, u4_in};
 use crate::stands::Stand;
 use crate::targets::{plain_class_in, super_in};
-use class_model::{Class, Indices, Pool};
-use const_pool::{PoolFault, read_pool};
+use class_model::{Class, Indices, MAGIC};
+use const_pool::{JudgedPool, PoolFault, read_pool};
 use sqlite_items::Items;
 use std::alloc::Global;
 
@@ -29,7 +29,7 @@ fn minor_in(end: u32, bytes: &[u8]) -> Result<(u16, &[u8]), ClassFault>
     ensures { Gives (λ r. (r.0, r.1.now)) result (minor_at end bytes.now) }
 {
     let (magic, rest) = u4_in(end, bytes)?;
-    if magic != 0xcafe_babe {
+    if magic != MAGIC {
         return Err(ClassFault::BadMagic);
     }
     u2_in(end, rest)
@@ -63,7 +63,7 @@ fn of_pool(fault: PoolFault) -> ClassFault
 }
 
 /// The pool that begins at an offset of the file.
-fn pool_in(alloc: Global, file: &[u8], at: u32) -> Result<(Pool, &[u8]), ClassFault>
+fn pool_in(alloc: Global, file: &[u8], at: u32) -> Result<(JudgedPool, &[u8]), ClassFault>
     requires small { length file.now < 2 ^ 32 }
     requires within { at ≤ length file.now }
     ensures { Gives (λ r. (r.0, r.1.now)) result (pool_at (length file.now) (drop at file.now)) }
@@ -80,7 +80,7 @@ fn pool_in(alloc: Global, file: &[u8], at: u32) -> Result<(Pool, &[u8]), ClassFa
 /// So many numbers of classes.
 fn classes_in<'a>(
     alloc: Global,
-    pool: &Pool,
+    pool: &JudgedPool,
     count: u16,
     end: u32,
     bytes: &'a [u8],
@@ -105,7 +105,7 @@ fn classes_in<'a>(
 #[tactic(auto, unfolding(class_text::specs::Readers::counted_after))]
 fn interfaces_in<'a>(
     alloc: Global,
-    pool: &Pool,
+    pool: &JudgedPool,
     end: u32,
     bytes: &'a [u8],
 ) -> Result<(Indices, &'a [u8]), ClassFault>
@@ -121,7 +121,7 @@ fn behind_pool_in(
     alloc: Global,
     minor: u16,
     major: u16,
-    pool: Pool,
+    pool: JudgedPool,
     end: u32,
     bytes: &[u8],
 ) -> Result<(Class, &[u8]), ClassFault>
@@ -137,7 +137,7 @@ fn behind_pool_in(
     let class = Class {
         minor,
         major,
-        pool,
+        pool: pool.into_pool(),
         flags,
         this_class,
         super_class,

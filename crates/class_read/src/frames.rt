@@ -8,14 +8,15 @@ ghost use Rattle.class_read.specs.Faults.{Gives};
 use crate::class_fault::ClassFault;
 use crate::numbers::{place_of, u1_in, u2_in};
 use crate::targets::class_in;
-use class_model::{FrameType, FrameTypes, Pool, StackFrame, StackFrames};
+use class_model::{FrameType, FrameTypes, StackFrame, StackFrames};
+use const_pool::JudgedPool;
 use sqlite_items::Items;
 use std::alloc::Global;
 
 /// What stands behind the tag of a type, which stands at a place.
 #[tactic(auto, unfolding(class_text::specs::Frames::typed_at))]
 fn typed_in<'a>(
-    pool: &Pool,
+    pool: &JudgedPool,
     at: u32,
     tag: u8,
     end: u32,
@@ -39,7 +40,7 @@ fn typed_in<'a>(
 
 #[tactic(auto, unfolding(class_text::specs::Frames::frame_type_at))]
 fn frame_type_in<'a>(
-    pool: &Pool,
+    pool: &JudgedPool,
     end: u32,
     bytes: &'a [u8],
 ) -> Result<(FrameType, &'a [u8]), ClassFault>
@@ -52,7 +53,7 @@ fn frame_type_in<'a>(
 /// So many types.
 fn types_in<'a>(
     alloc: Global,
-    pool: &Pool,
+    pool: &JudgedPool,
     count: u16,
     end: u32,
     bytes: &'a [u8],
@@ -77,7 +78,7 @@ fn types_in<'a>(
 #[tactic(auto, unfolding(class_text::specs::Readers::counted_after))]
 fn counted_types_in<'a>(
     alloc: Global,
-    pool: &Pool,
+    pool: &JudgedPool,
     end: u32,
     bytes: &'a [u8],
 ) -> Result<(FrameTypes, &'a [u8]), ClassFault>
@@ -91,7 +92,7 @@ fn counted_types_in<'a>(
 #[tactic(auto, unfolding(class_text::specs::Frames::with_item_at))]
 fn with_item_in<'a>(
     alloc: Global,
-    pool: &Pool,
+    pool: &JudgedPool,
     tag: u8,
     delta: u16,
     end: u32,
@@ -114,7 +115,7 @@ fn with_item_in<'a>(
 #[tactic(auto, unfolding(class_text::specs::Frames::with_locals_at))]
 fn with_locals_in<'a>(
     alloc: Global,
-    pool: &Pool,
+    pool: &JudgedPool,
     tag: u8,
     delta: u16,
     many: u16,
@@ -138,7 +139,7 @@ fn with_locals_in<'a>(
 #[tactic(auto, unfolding(class_text::specs::Frames::full_at))]
 fn full_in<'a>(
     alloc: Global,
-    pool: &Pool,
+    pool: &JudgedPool,
     tag: u8,
     delta: u16,
     end: u32,
@@ -172,7 +173,7 @@ fn empty_frame(alloc: Global, tag: u8, delta: u16) -> StackFrame
 #[tactic(auto, unfolding(class_text::specs::Frames::behind_delta_at))]
 fn behind_delta_in<'a>(
     alloc: Global,
-    pool: &Pool,
+    pool: &JudgedPool,
     tag: u8,
     delta: u16,
     end: u32,
@@ -196,7 +197,7 @@ fn behind_delta_in<'a>(
 #[tactic(auto, unfolding(class_text::specs::Frames::framed_at))]
 fn framed_in<'a>(
     alloc: Global,
-    pool: &Pool,
+    pool: &JudgedPool,
     at: u32,
     tag: u8,
     end: u32,
@@ -220,7 +221,7 @@ fn framed_in<'a>(
 #[tactic(auto, unfolding(class_text::specs::Frames::frame_at))]
 fn frame_in<'a>(
     alloc: Global,
-    pool: &Pool,
+    pool: &JudgedPool,
     end: u32,
     bytes: &'a [u8],
 ) -> Result<(StackFrame, &'a [u8]), ClassFault>
@@ -233,7 +234,7 @@ fn frame_in<'a>(
 /// So many frames.
 fn some_frames_in<'a>(
     alloc: Global,
-    pool: &Pool,
+    pool: &JudgedPool,
     count: u16,
     end: u32,
     bytes: &'a [u8],
@@ -258,7 +259,7 @@ fn some_frames_in<'a>(
 #[tactic(auto, unfolding(class_text::specs::Readers::counted_after))]
 pub(crate) fn frames_in<'a>(
     alloc: Global,
-    pool: &Pool,
+    pool: &JudgedPool,
     end: u32,
     bytes: &'a [u8],
 ) -> Result<(StackFrames, &'a [u8]), ClassFault>

@@ -5,8 +5,7 @@ ghost use Rattle.class_model.specs.Shape.{has_code};
 ghost use Rattle.class_read.specs.declared.limits.Limit.TheVariants.{Methods};
 ghost use Rattle.class_read.specs.Limits.{most, count_of, IsFirstPassed, IsWithinLimits};
 
-use crate::members::has_code;
-use class_model::{Class, Member};
+use class_model::{Class, Member, has_code};
 use std::fmt;
 
 /// What a build may have only so many of.

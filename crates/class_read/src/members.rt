@@ -1,11 +1,9 @@
 //! Fields and methods (JVMS 4.5 and 4.6).
 
 ghost use Rattle.std.specs.Prelude.{◌≡◌, ◌++◌, ◌∷◌, [], IfOk};
-ghost use Rattle.class_model.specs.declared.attribute_forms.Attribute.{out-Attribute};
 ghost use Rattle.class_model.specs.SeenMembers.{HasSeen};
-ghost use Rattle.class_model.specs.Shape.{most_slots, is_code_layer, has_code};
 ghost use Rattle.class_text.specs.Readers.{index_at, many_after, counted_after};
-ghost use Rattle.class_text.specs.Classes.{is_field_type, is_method_type, is_barred, field_at, method_at};
+ghost use Rattle.class_text.specs.Classes.{is_field_type, is_method_type, field_at, method_at};
 ghost use Rattle.class_read.specs.Faults.{Gives};
 ghost use Rattle.class_read.specs.Entered.{IsEntered};
 
@@ -14,7 +12,8 @@ use crate::class_fault::ClassFault;
 use crate::numbers::{place_of, u2_in};
 use crate::stands::Stand;
 use crate::targets::{field_name_in, method_name_in};
-use class_model::{Attribute, Member, MemberNames, Members, Pool};
+use class_model::{Member, MemberNames, Members, has_code, is_bare, is_static};
+use const_pool::JudgedPool;
 use sqlite_items::Items;
 use std::alloc::{AllocError, Global};
 
@@ -43,28 +42,26 @@ impl<'p> Before<'p> {
     }
 
     /// Enters a name and a descriptor, and tells whether no member before has both.
-    fn enter(&mut self, pool: &'p Pool, name: u16, descriptor: u16) -> Result<bool, AllocError>
+    fn enter(
+        &mut self,
+        pool: &'p JudgedPool,
+        name: u16,
+        descriptor: u16,
+    ) -> Result<bool, AllocError>
         requires { HasSeen pool.now self.old.list self.old.names }
         ensures first { IfOk result (λ first. first ≡ is_new pool.now self.old.list name descriptor) }
         ensures list { self.new.list ≡ self.old.list }
         ensures seen { OnOk result (IsEntered pool.now name descriptor self.old.list self.new.names) }
     {
-        let first = self.names.insert(pool, name, descriptor)?;
+        let first = self.names.insert(pool.as_pool(), name, descriptor)?;
         Ok(first)
     }
-}
-
-/// The slots that parameters may take beside `this`.
-fn most_slots(flags: u16) -> u8
-    ensures { result ≡ most_slots flags }
-{
-    if flags & 0x0008 != 0 { 255 } else { 254 }
 }
 
 /// The descriptor of a field behind its name, which no field before has.
 #[tactic(auto, unfolding(class_text::specs::Readers::index_at, class_text::specs::Classes::is_field_type))]
 fn field_type_in<'a, 'p>(
-    pool: &'p Pool,
+    pool: &'p JudgedPool,
     before: &mut Before<'p>,
     name: u16,
     end: u32,
@@ -88,7 +85,7 @@ fn field_type_in<'a, 'p>(
 /// The descriptor of a method behind its flags and its name, which no method before has.
 #[tactic(auto, unfolding(class_text::specs::Readers::index_at, class_text::specs::Classes::is_method_type))]
 fn method_type_in<'a, 'p>(
-    pool: &'p Pool,
+    pool: &'p JudgedPool,
     before: &mut Before<'p>,
     flags: u16,
     name: u16,
@@ -101,7 +98,7 @@ fn method_type_in<'a, 'p>(
     ensures seen { IfOk result (λ r. IsEntered pool.now name r.0 before.old.list before.new.names) }
 {
     let (number, rest) = u2_in(end, bytes)?;
-    if !pool.is_method_type(most_slots(flags), number) {
+    if !pool.is_method_type(is_static(flags), number) {
         return Err(ClassFault::BadIndex(place_of(end, bytes)));
     }
     if !before.enter(pool, name, number)? {
@@ -114,7 +111,7 @@ fn method_type_in<'a, 'p>(
 #[tactic(auto, unfolding(class_text::specs::Classes::field_at))]
 fn field_in<'a, 'p>(
     alloc: Global,
-    pool: &'p Pool,
+    pool: &'p JudgedPool,
     before: &mut Before<'p>,
     end: u32,
     bytes: &'a [u8],
@@ -127,7 +124,7 @@ fn field_in<'a, 'p>(
     let (flags, rest) = u2_in(end, bytes)?;
     let (name, rest) = field_name_in(pool, end, rest)?;
     let (descriptor, rest) = field_type_in(pool, before, name, end, rest)?;
-    let stand = Stand::Field(pool.text_or_empty(descriptor));
+    let stand = Stand::Field(pool.as_pool().text_or_empty(descriptor));
     let (attributes, rest) = attributes_in(alloc, pool, stand, false, end, rest)?;
     let field = Member {
         flags,
@@ -138,33 +135,11 @@ fn field_in<'a, 'p>(
     Ok((field, rest))
 }
 
-/// Whether a method is abstract or native, so that it has no code.
-fn is_barred(flags: u16) -> bool
-    ensures { result ≡ is_barred flags }
-{
-    flags & 0x0400 != 0 || flags & 0x0100 != 0
-}
-
-fn is_code(attribute: &Attribute) -> bool
-    ensures { result ≡ is_code_layer (out-Attribute attribute.now) }
-{
-    match attribute {
-        Attribute::Code { .. } => true,
-        _ => false,
-    }
-}
-
-pub(crate) fn has_code(attributes: &[Attribute]) -> bool
-    ensures { result ≡ has_code attributes.now }
-{
-    attributes.iter().any(|attribute| is_code(attribute))
-}
-
 /// Reads a method, and enters its name and descriptor.
 #[tactic(auto, unfolding(class_text::specs::Classes::method_at))]
 fn method_in<'a, 'p>(
     alloc: Global,
-    pool: &'p Pool,
+    pool: &'p JudgedPool,
     before: &mut Before<'p>,
     end: u32,
     bytes: &'a [u8],
@@ -177,7 +152,7 @@ fn method_in<'a, 'p>(
     let (flags, rest) = u2_in(end, bytes)?;
     let (name, rest) = method_name_in(pool, end, rest)?;
     let (descriptor, rest) = method_type_in(pool, before, flags, name, end, rest)?;
-    let barred = is_barred(flags);
+    let barred = is_bare(flags);
     let (attributes, rest) = attributes_in(alloc, pool, Stand::Method, barred, end, rest)?;
     if !barred && !has_code(attributes.as_slice()) {
         return Err(ClassFault::CodeMissing(place_of(end, bytes)));
@@ -194,7 +169,7 @@ fn method_in<'a, 'p>(
 /// So many fields.
 fn some_fields_in<'a>(
     alloc: Global,
-    pool: &Pool,
+    pool: &JudgedPool,
     count: u16,
     end: u32,
     bytes: &'a [u8],
@@ -219,7 +194,7 @@ fn some_fields_in<'a>(
 #[tactic(auto, unfolding(class_text::specs::Readers::counted_after))]
 pub(crate) fn fields_in<'a>(
     alloc: Global,
-    pool: &Pool,
+    pool: &JudgedPool,
     end: u32,
     bytes: &'a [u8],
 ) -> Result<(Members, &'a [u8]), ClassFault>
@@ -232,7 +207,7 @@ pub(crate) fn fields_in<'a>(
 /// So many methods.
 fn some_methods_in<'a>(
     alloc: Global,
-    pool: &Pool,
+    pool: &JudgedPool,
     count: u16,
     end: u32,
     bytes: &'a [u8],
@@ -257,7 +232,7 @@ fn some_methods_in<'a>(
 #[tactic(auto, unfolding(class_text::specs::Readers::counted_after))]
 pub(crate) fn methods_in<'a>(
     alloc: Global,
-    pool: &Pool,
+    pool: &JudgedPool,
     end: u32,
     bytes: &'a [u8],
 ) -> Result<(Members, &'a [u8]), ClassFault>

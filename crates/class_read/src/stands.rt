@@ -1,13 +1,12 @@
 //! Where attributes stand, and which of them were read there.
 
 ghost use Rattle.std.specs.Prelude.{◌≡◌, ◌++◌, ◌∷◌, [], ◌&&◌, bytes_eq, codes, map, OnOk};
-ghost use Rattle.class_model.specs.declared.attribute_forms.Attribute.{out-Attribute};
 ghost use Rattle.class_model.specs.Attributes.{is_known, attribute_name};
-ghost use Rattle.class_model.specs.Spelling.{name_of};
 ghost use Rattle.class_text.specs.Attributes.{is_first, own_name};
 ghost use Rattle.class_read.specs.Stands.{place_of, Keeps};
 
-use class_model::{Attribute, Attributes, Pool};
+use class_model::{Attribute, Attributes};
+use const_pool::JudgedPool;
 use sqlite_items::Items;
 use std::alloc::{AllocError, Global};
 
@@ -50,19 +49,6 @@ pub(crate) fn is_known(stand: Stand<'_>, text: &[u8]) -> bool
     }
 }
 
-fn name_of(attribute: &Attribute) -> u16
-    ensures { result ≡ name_of (out-Attribute attribute.now) }
-{
-    match attribute {
-        Attribute::Code { name, .. } => *name,
-        Attribute::StackMap { name, .. } => *name,
-        Attribute::ConstantValue { name, .. } => *name,
-        Attribute::Bootstrap { name, .. } => *name,
-        Attribute::Annotations { name, .. } => *name,
-        Attribute::Other { name, .. } => *name,
-    }
-}
-
 /// The attributes that were read so far, and whether the two known names are among theirs.
 #[derive(Drop)]
 pub(crate) struct Found {
@@ -90,7 +76,7 @@ impl Found {
     }
 
     /// Whether no attribute of a known name stands there yet.
-    pub(crate) fn is_first(&self, pool: &Pool, stand: Stand<'_>, text: &[u8]) -> bool
+    pub(crate) fn is_first(&self, pool: &JudgedPool, stand: Stand<'_>, text: &[u8]) -> bool
         requires { Keeps pool.now (place_of stand) self.now }
         ensures { result ≡ is_first (is_known (place_of stand.entry)) bytes_eq (map (attribute_name pool.now) self.now.list) text.now }
     {
@@ -105,7 +91,7 @@ impl Found {
 
     pub(crate) fn push(
         &mut self,
-        pool: &Pool,
+        pool: &JudgedPool,
         stand: Stand<'_>,
         attribute: Attribute,
     ) -> Result<(), AllocError>
@@ -113,7 +99,7 @@ impl Found {
         ensures list { OnOk result (self.new.list ≡ self.old.list ++ attribute ∷ []) }
         ensures keeps { OnOk result (Keeps pool.now (place_of stand.entry) self.new) }
     {
-        let text = pool.text_or_empty(name_of(&attribute));
+        let text = pool.as_pool().text_or_empty(attribute.name());
         self.own = self.own || text == own_name(stand);
         self.annotations = self.annotations || is_annotations(text);
         self.list.push(attribute)

@@ -12,36 +12,36 @@ ghost use Rattle.class_read.specs.Faults.{Gives};
 
 use crate::class_fault::ClassFault;
 use crate::numbers::{place_of, u2_in};
-use class_model::Pool;
+use const_pool::JudgedPool;
 
 #[tactic(auto, unfolding(class_text::specs::Readers::index_at, class_text::specs::Frames::is_class))]
 pub(crate) fn class_in<'a>(
-    pool: &Pool,
+    pool: &JudgedPool,
     end: u32,
     bytes: &'a [u8],
 ) -> Result<(u16, &'a [u8]), ClassFault>
     ensures { Gives (λ r. (r.0, r.1.now)) result (index_at (is_class pool.now) end bytes.now) }
 {
     let (number, rest) = u2_in(end, bytes)?;
-    if !pool.is_class(number) {
+    if !pool.as_pool().is_class(number) {
         return Err(ClassFault::BadIndex(place_of(end, bytes)));
     }
     Ok((number, rest))
 }
 
 #[tactic(auto, unfolding(class_text::specs::Attributes::is_caught, class_text::specs::Frames::is_class))]
-fn is_caught(pool: &Pool, number: u16) -> bool
+fn is_caught(pool: &JudgedPool, number: u16) -> bool
     ensures { result ≡ is_caught pool.now number }
 {
     if number == 0 {
         return true;
     }
-    pool.is_class(number)
+    pool.as_pool().is_class(number)
 }
 
 #[tactic(auto, unfolding(class_text::specs::Readers::index_at))]
 pub(crate) fn caught_in<'a>(
-    pool: &Pool,
+    pool: &JudgedPool,
     end: u32,
     bytes: &'a [u8],
 ) -> Result<(u16, &'a [u8]), ClassFault>
@@ -56,14 +56,14 @@ pub(crate) fn caught_in<'a>(
 
 #[tactic(auto, unfolding(class_text::specs::Readers::index_at, class_text::specs::Elements::is_text))]
 pub(crate) fn text_in<'a>(
-    pool: &Pool,
+    pool: &JudgedPool,
     end: u32,
     bytes: &'a [u8],
 ) -> Result<(u16, &'a [u8]), ClassFault>
     ensures { Gives (λ r. (r.0, r.1.now)) result (index_at (is_text pool.now) end bytes.now) }
 {
     let (number, rest) = u2_in(end, bytes)?;
-    if !pool.is_text(number) {
+    if !pool.as_pool().is_text(number) {
         return Err(ClassFault::BadIndex(place_of(end, bytes)));
     }
     Ok((number, rest))
@@ -71,7 +71,7 @@ pub(crate) fn text_in<'a>(
 
 #[tactic(auto, unfolding(class_text::specs::Readers::index_at, class_text::specs::Elements::is_type))]
 pub(crate) fn type_in<'a>(
-    pool: &Pool,
+    pool: &JudgedPool,
     end: u32,
     bytes: &'a [u8],
 ) -> Result<(u16, &'a [u8]), ClassFault>
@@ -86,7 +86,7 @@ pub(crate) fn type_in<'a>(
 
 #[tactic(auto, unfolding(class_text::specs::Readers::index_at, class_text::specs::Elements::is_result))]
 pub(crate) fn result_in<'a>(
-    pool: &Pool,
+    pool: &JudgedPool,
     end: u32,
     bytes: &'a [u8],
 ) -> Result<(u16, &'a [u8]), ClassFault>
@@ -101,7 +101,7 @@ pub(crate) fn result_in<'a>(
 
 #[tactic(auto, unfolding(class_text::specs::Readers::index_at, class_text::specs::Elements::is_value))]
 pub(crate) fn value_in<'a>(
-    pool: &Pool,
+    pool: &JudgedPool,
     tag: u8,
     end: u32,
     bytes: &'a [u8],
@@ -109,7 +109,7 @@ pub(crate) fn value_in<'a>(
     ensures { Gives (λ r. (r.0, r.1.now)) result (index_at (is_value pool.now tag) end bytes.now) }
 {
     let (number, rest) = u2_in(end, bytes)?;
-    if !pool.is_value_of(tag, number) {
+    if !pool.as_pool().is_value_of(tag, number) {
         return Err(ClassFault::BadIndex(place_of(end, bytes)));
     }
     Ok((number, rest))
@@ -117,14 +117,14 @@ pub(crate) fn value_in<'a>(
 
 #[tactic(auto, unfolding(class_text::specs::Readers::index_at, class_text::specs::Attributes::leads_to_handle))]
 pub(crate) fn handle_in<'a>(
-    pool: &Pool,
+    pool: &JudgedPool,
     end: u32,
     bytes: &'a [u8],
 ) -> Result<(u16, &'a [u8]), ClassFault>
     ensures { Gives (λ r. (r.0, r.1.now)) result (index_at (leads_to_handle pool.now) end bytes.now) }
 {
     let (number, rest) = u2_in(end, bytes)?;
-    if !pool.is_handle(number) {
+    if !pool.as_pool().is_handle(number) {
         return Err(ClassFault::BadIndex(place_of(end, bytes)));
     }
     Ok((number, rest))
@@ -132,14 +132,14 @@ pub(crate) fn handle_in<'a>(
 
 #[tactic(auto, unfolding(class_text::specs::Readers::index_at, class_text::specs::Attributes::leads_to_loadable))]
 pub(crate) fn loadable_in<'a>(
-    pool: &Pool,
+    pool: &JudgedPool,
     end: u32,
     bytes: &'a [u8],
 ) -> Result<(u16, &'a [u8]), ClassFault>
     ensures { Gives (λ r. (r.0, r.1.now)) result (index_at (leads_to_loadable pool.now) end bytes.now) }
 {
     let (number, rest) = u2_in(end, bytes)?;
-    if !pool.is_loadable(number) {
+    if !pool.as_pool().is_loadable(number) {
         return Err(ClassFault::BadIndex(place_of(end, bytes)));
     }
     Ok((number, rest))
@@ -147,7 +147,7 @@ pub(crate) fn loadable_in<'a>(
 
 #[tactic(auto, unfolding(class_text::specs::Readers::index_at, class_text::specs::Attributes::leads_to_value))]
 pub(crate) fn field_value_in<'a>(
-    pool: &Pool,
+    pool: &JudgedPool,
     descriptor: &[u8],
     end: u32,
     bytes: &'a [u8],
@@ -155,7 +155,7 @@ pub(crate) fn field_value_in<'a>(
     ensures { Gives (λ r. (r.0, r.1.now)) result (index_at (leads_to_value pool.now descriptor.now) end bytes.now) }
 {
     let (number, rest) = u2_in(end, bytes)?;
-    if !pool.is_value_for(descriptor, number) {
+    if !pool.as_pool().is_value_for(descriptor, number) {
         return Err(ClassFault::BadIndex(place_of(end, bytes)));
     }
     Ok((number, rest))
@@ -163,7 +163,7 @@ pub(crate) fn field_value_in<'a>(
 
 #[tactic(auto, unfolding(class_text::specs::Readers::index_at, class_text::specs::Classes::is_field_name))]
 pub(crate) fn field_name_in<'a>(
-    pool: &Pool,
+    pool: &JudgedPool,
     end: u32,
     bytes: &'a [u8],
 ) -> Result<(u16, &'a [u8]), ClassFault>
@@ -178,7 +178,7 @@ pub(crate) fn field_name_in<'a>(
 
 #[tactic(auto, unfolding(class_text::specs::Readers::index_at, class_text::specs::Classes::is_name_of_method))]
 pub(crate) fn method_name_in<'a>(
-    pool: &Pool,
+    pool: &JudgedPool,
     end: u32,
     bytes: &'a [u8],
 ) -> Result<(u16, &'a [u8]), ClassFault>
@@ -193,7 +193,7 @@ pub(crate) fn method_name_in<'a>(
 
 #[tactic(auto, unfolding(class_text::specs::Readers::index_at))]
 pub(crate) fn plain_class_in<'a>(
-    pool: &Pool,
+    pool: &JudgedPool,
     end: u32,
     bytes: &'a [u8],
 ) -> Result<(u16, &'a [u8]), ClassFault>
@@ -206,17 +206,17 @@ pub(crate) fn plain_class_in<'a>(
     Ok((number, rest))
 }
 
-fn is_object(pool: &Pool, number: u16) -> bool
+fn is_object(pool: &JudgedPool, number: u16) -> bool
     ensures { result ≡ bytes_eq (unwrap_or (class_at pool.now number) []) (codes "java/lang/Object") }
 {
-    match pool.class_name(number) {
+    match pool.as_pool().class_name(number) {
         Some(name) => name == b"java/lang/Object".as_slice(),
         None => false,
     }
 }
 
 #[tactic(auto, unfolding(class_text::specs::Classes::is_super))]
-fn is_super(pool: &Pool, this: u16, number: u16) -> bool
+fn is_super(pool: &JudgedPool, this: u16, number: u16) -> bool
     ensures { result ≡ is_super pool.now this number }
 {
     if number == 0 {
@@ -227,7 +227,7 @@ fn is_super(pool: &Pool, this: u16, number: u16) -> bool
 
 #[tactic(auto, unfolding(class_text::specs::Readers::index_at))]
 pub(crate) fn super_in<'a>(
-    pool: &Pool,
+    pool: &JudgedPool,
     this: u16,
     end: u32,
     bytes: &'a [u8],

@@ -1,3 +1,4 @@
 pub mod Loop
 pub mod Places
 pub mod Written
+pub mod Forms

@@ -3,18 +3,20 @@
 //! contracts cite. The reader and the writer of class files use `read_pool` and `write_pool`.
 #![tactic(auto)]
 
+mod judged_pool;
 mod numbers;
 mod pool_fault;
 mod pool_reader;
 mod pool_writer;
 mod targets;
+mod text_forms;
 mod write_fault;
 
+pub use judged_pool::JudgedPool;
 pub use numbers::{u2_in, u4_in, u8_in};
 pub use pool_fault::PoolFault;
 pub use pool_reader::read_pool;
 pub use pool_writer::{put_u2, put_u4, write_pool};
-pub use targets::has_targets;
 pub use write_fault::{AttributeId, AttributePart, Holder, MemberPart, Part, WriteFault};
 
 #[cfg(test)]

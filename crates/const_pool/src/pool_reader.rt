@@ -7,11 +7,14 @@ ghost use Rattle.class_model.specs.Constants.{takes_two, IsPool};
 ghost use Rattle.class_model.specs.Spelling as spelling;
 ghost use Rattle.class_text.specs.Reading.{place};
 ghost use Rattle.class_text.specs.Pool.{of_two, handle_at, fixed_at, is_tag, is_wide, utf8_at, constant_at, constants_at, wrong_at, judged, pool_at};
+ghost use Rattle.const_pool.specs.TextForms.{IsTableOf};
 ghost use Rattle.const_pool.specs.Faults.{Gives, Fails, IsOkUnlessMemory, behind};
 
+use crate::judged_pool::JudgedPool;
 use crate::numbers::{u2_in, u4_in, u8_in};
 use crate::pool_fault::PoolFault;
 use crate::targets::has_targets;
+use crate::text_forms::TextTable;
 use class_model::{Constant, Constants, Pool, is_modified_utf8};
 use sqlite_items::Items;
 use std::alloc::Global;
@@ -261,13 +264,14 @@ fn length_of(constant: &Constant) -> usize
 }
 
 /// The place of the first constant with a wrong target, where the first constant stands at a place.
-fn wrong_in(pool: &Pool, at: u32) -> Option<u32>
-    requires { at + length (flat_map spelling.constant pool.now.constants) < 2 ^ 32 }
+fn wrong_in(pool: &Pool, texts: &TextTable, at: u32) -> Option<u32>
+    requires room { at + length (flat_map spelling.constant pool.now.constants) < 2 ^ 32 }
+    requires texts { IsTableOf pool.now texts.now }
     ensures { result ≡ wrong_at pool.now at pool.now.constants }
 {
     let mut place = at as usize;
     for constant in pool.constants.as_slice() {
-        if !has_targets(pool, constant) {
+        if !has_targets(pool, texts, constant) {
             return Some(place as u32);
         }
         place += length_of(constant);
@@ -276,19 +280,20 @@ fn wrong_in(pool: &Pool, at: u32) -> Option<u32>
 }
 
 /// The pool, unless one of its targets is wrong.
-fn judge(at: u32, pool: Pool, after: &[u8]) -> Result<(Pool, &[u8]), PoolFault>
+fn judge(alloc: Global, at: u32, pool: Pool, after: &[u8]) -> Result<(JudgedPool, &[u8]), PoolFault>
     requires { at + length (flat_map spelling.constant pool.constants) < 2 ^ 32 }
     ensures { Gives (λ r. (r.0, r.1.now)) result (judged at (pool.constants, after.entry.now)) }
 {
-    match wrong_in(&pool, at) {
+    let texts = TextTable::of(alloc, &pool)?;
+    match wrong_in(&pool, &texts, at) {
         Some(place) => Err(PoolFault::BadIndex(place)),
-        None => Ok((pool, after)),
+        None => Ok((JudgedPool::of(pool, texts), after)),
     }
 }
 
 /// The pool at the front of bytes that go on to the end of the file.
 #[tactic(auto, unfolding(class_text::specs::Pool::pool_at))]
-fn pool_in(alloc: Global, end: u32, bytes: &[u8]) -> Result<(Pool, &[u8]), PoolFault>
+fn pool_in(alloc: Global, end: u32, bytes: &[u8]) -> Result<(JudgedPool, &[u8]), PoolFault>
     requires { length bytes.now ≤ end }
     ensures { Gives (λ r. (r.0, r.1.now)) result (pool_at end bytes.now) }
 {
@@ -300,14 +305,14 @@ fn pool_in(alloc: Global, end: u32, bytes: &[u8]) -> Result<(Pool, &[u8]), PoolF
         return Err(PoolFault::BadIndex(at));
     }
     match constants_in(alloc, end, count - 1, rest) {
-        Ok((constants, after)) => judge(place_of(end, rest), Pool { constants }, after),
+        Ok((constants, after)) => judge(alloc, place_of(end, rest), Pool { constants }, after),
         Err(fault) => Err(fault),
     }
 }
 
 /// Reads the pool that begins at an offset of a file, its count first, and gives the offset after it. The refusal is
 /// the first bad place (JVMS 4.4): cuts, tags and texts in file order, and then the first constant with a wrong target.
-pub fn read_pool(alloc: Global, bytes: &[u8], at: u32) -> Result<(Pool, u32), PoolFault>
+pub fn read_pool(alloc: Global, bytes: &[u8], at: u32) -> Result<(JudgedPool, u32), PoolFault>
     requires small { length bytes.now < 2 ^ 32 }
     requires within { at ≤ length bytes.now }
     // What is read is a pool, and is spelled there.

@@ -5,10 +5,12 @@ ghost use Rattle.std.specs.Int.{w16, w32, w64, to_be_bytes};
 ghost use Rattle.std.specs.List.{flat_map, AllByRecursion};
 ghost use Rattle.class_model.specs.Constants.{IsConstant, IsPool, is_second};
 ghost use Rattle.class_model.specs.Spelling as spelling;
+ghost use Rattle.const_pool.specs.TextForms.{IsTableOf};
 ghost use Rattle.const_pool.specs.Writing.{is_short, is_formed, is_placed, misfit_of, misfit_from, misfit, Names};
 
 use crate::pool_reader::takes_two;
 use crate::targets::has_targets;
+use crate::text_forms::TextTable;
 use crate::write_fault::{Part, WriteFault};
 use class_model::{Constant, Pool, is_modified_utf8};
 use std::alloc::{AllocError, Global};
@@ -64,11 +66,13 @@ fn is_placed(due: bool, last: bool, constant: &Constant) -> bool
 #[tactic(auto, unfolding(crate::specs::Writing::misfit_of))]
 fn misfit_in(
     pool: &Pool,
+    texts: &TextTable,
     number: u32,
     due: bool,
     last: bool,
     constant: &Constant,
 ) -> Option<WriteFault>
+    requires { IsTableOf pool.now texts.now }
     ensures { result ≡ misfit_of pool.now number due last constant.now }
 {
     if !is_short(constant) {
@@ -80,7 +84,7 @@ fn misfit_in(
     if !is_placed(due, last, constant) {
         return Some(WriteFault::BadShape(Part::Constant(number)));
     }
-    if !has_targets(pool, constant) {
+    if !has_targets(pool, texts, constant) {
         return Some(WriteFault::BadShape(Part::Constant(number)));
     }
     None
@@ -185,17 +189,19 @@ fn put_constant(out: &mut Vec<u8>, constant: &Constant) -> Result<(), AllocError
 fn put_checked(
     out: &mut Vec<u8>,
     pool: &Pool,
+    texts: &TextTable,
     number: u32,
     due: bool,
     last: bool,
     constant: &Constant,
 ) -> Result<(), WriteFault>
+    requires { IsTableOf pool.now texts.now }
     ensures none { OnOk result (misfit_of pool.now number due last constant.now ≡ None) }
     ensures fits { OnOk result (IsConstant constant.now) }
     ensures ok { OnOk result (out.new.items ≡ out.old.items ++ spelling.constant constant.now) }
     ensures fault { IfErr result (λ e. Names e (misfit_of pool.now number due last constant.now)) }
 {
-    match misfit_in(pool, number, due, last, constant) {
+    match misfit_in(pool, texts, number, due, last, constant) {
         Some(fault) => Err(fault),
         None => match put_constant(out, constant) {
             Ok(()) => Ok(()),
@@ -205,8 +211,9 @@ fn put_checked(
 }
 
 /// Writes the constants at the end, up to the first misfit.
-fn put_all(out: &mut Vec<u8>, pool: &Pool) -> Result<(), WriteFault>
-    requires { length pool.now.constants + 1 < 2 ^ 16 }
+fn put_all(out: &mut Vec<u8>, pool: &Pool, texts: &TextTable) -> Result<(), WriteFault>
+    requires few { length pool.now.constants + 1 < 2 ^ 16 }
+    requires texts { IsTableOf pool.now texts.now }
     ensures none { OnOk result (misfit_from pool.now 1 false pool.now.constants ≡ None) }
     ensures fits { OnOk result (AllByRecursion IsConstant pool.now.constants) }
     ensures ok { OnOk result (out.new.items ≡ out.old.items ++ flat_map spelling.constant pool.now.constants) }
@@ -218,7 +225,7 @@ fn put_all(out: &mut Vec<u8>, pool: &Pool) -> Result<(), WriteFault>
         let constant = &constants[i];
         let number = i as u32 + 1;
         let last = i + 1 == constants.len();
-        match put_checked(out, pool, number, due, last, constant) {
+        match put_checked(out, pool, texts, number, due, last, constant) {
             Ok(()) => due = takes_two(constant),
             Err(fault) => return Err(fault),
         }
@@ -239,20 +246,24 @@ pub fn write_pool(alloc: Global, pool: &Pool) -> Result<Bytes, WriteFault>
     }
     let mut out = Vec::new(alloc);
     match put_u2(&mut out, numbers as u16 + 1) {
-        Ok(()) => put_rest(out, pool),
+        Ok(()) => match TextTable::of(alloc, pool) {
+            Ok(texts) => put_rest(out, pool, &texts),
+            Err(_) => Err(WriteFault::Memory),
+        },
         Err(_) => Err(WriteFault::Memory),
     }
 }
 
 /// The constants behind their count.
-fn put_rest(mut out: Vec<u8>, pool: &Pool) -> Result<Bytes, WriteFault>
+fn put_rest(mut out: Vec<u8>, pool: &Pool, texts: &TextTable) -> Result<Bytes, WriteFault>
+    requires texts { IsTableOf pool.now texts.now }
     requires few { length pool.now.constants + 1 < 2 ^ 16 }
     requires count { out.items ≡ to_be_bytes w16 (length pool.now.constants + 1) }
     ensures written { IfOk result (λ bytes. IsPool pool.now × (bytes ≡ spelling.pool pool.now)) }
     ensures only { IsPool pool.now → IsOkUnless result WriteFault.Memory }
     ensures fault { IfErr result (λ e. Names e (misfit pool.now)) }
 {
-    match put_all(&mut out, pool) {
+    match put_all(&mut out, pool, texts) {
         Ok(()) => Ok(Bytes::from_vec(out)),
         Err(fault) => Err(fault),
     }

@@ -183,7 +183,7 @@ fn both_ways(alloc: Global, count: u32) -> Result<(usize, bool), Fail> {
         return Ok((0, false));
     }
     let (pool, _) = read_pool(alloc, bytes, 0)?;
-    let again = write_pool(alloc, &pool)?;
+    let again = write_pool(alloc, pool.as_pool())?;
     Ok((bytes.len(), again.as_slice() == bytes))
 }
 

@@ -45,7 +45,7 @@ fn the_first_bad_place_is_named(rt: HostRuntime) {
 fn a_pool_is_read_to_its_end(rt: HostRuntime) {
     let bytes = b"\x00\x05\x01\x00\x01A\x07\x00\x01\x05\x00\x00\x00\x00\x00\x00\x00\x07rest";
     let read = match read_pool(rt.alloc(), bytes, 0) {
-        Ok((pool, next)) => pool.constants.len() == 4 && next == 18,
+        Ok((pool, next)) => pool.as_pool().constants.len() == 4 && next == 18,
         Err(_) => false,
     };
     assert!(rt; read);
@@ -56,7 +56,7 @@ fn a_pool_is_read_to_its_end(rt: HostRuntime) {
 fn what_is_read_is_written_again(rt: HostRuntime) -> Result<(), Fail> {
     let bytes = b"\x00\x05\x01\x00\x01A\x07\x00\x01\x05\x00\x00\x00\x00\x00\x00\x00\x07";
     let (pool, _) = read_pool(rt.alloc(), bytes, 0)?;
-    let written = write_pool(rt.alloc(), &pool)?;
+    let written = write_pool(rt.alloc(), pool.as_pool())?;
     assert!(rt; written.as_slice() == bytes.as_slice());
     Ok(())
 }

@@ -9,7 +9,9 @@ pub returns-clause-first : goal.returns-clause-first
 unfolding is_new is_first
 returns-clause-first c =
     let m : Member = record { flags = 0; name = c.args.name; descriptor = c.args.descriptor; attributes = [] } in
-    c.in_ok-first.ensures.added c.args.self.now.list m refl refl c.requires ∙ ap not (same_back c.args.pool.now c.args.self.now.list m)
+    rw (← c.as_pool.ensures)
+    (c.in_ok-first.ensures.added c.args.self.now.list m refl refl (rw c.as_pool.ensures c.requires) ∙ ap not (same_back c.as_pool.result.now c.args.self.now.list m))
 
 pub returns-clause-seen : goal.returns-clause-seen
-returns-clause-seen c = λ m name descriptor. c.in_ok-first.ensures.seen c.args.self.now.list m name descriptor c.requires
+returns-clause-seen c = λ m name descriptor.
+    rw (← c.as_pool.ensures) (c.in_ok-first.ensures.seen c.args.self.now.list m name descriptor (rw c.as_pool.ensures c.requires))
