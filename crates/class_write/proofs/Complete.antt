@@ -21,7 +21,7 @@ use Rattle.class_model.specs.Layers.{AttributeLayer, ElementLayer}
 use Rattle.class_model.specs.Constants.{IsPool}
 use Rattle.class_model.specs.Annotations.{IsCounted, IsPairBy, IsNoteBy, IsElementBy, IsElement, IsAnnotation}
 use Rattle.class_model.specs.Attributes.{Place, in_code, IsFrameType, IsFrame, IsHandler, IsBootstrap, IsCode, IsCodeAttribute, IsCodeAttributes, IsAttribute, IsAttributes, once_each, is_known, attribute_name}
-use Rattle.class_model.specs.Shape.{IsField, IsMethod, IsMembers, Shaped, are_same, is_code_layer, has_code, descriptor_text}
+use Rattle.class_model.specs.Shape.{IsField, IsMethod, IsMembers, Shaped, are_same, is_bare, is_code_layer, has_code, descriptor_text}
 use Rattle.const_pool.specs.Writing as pools
 use Rattle.const_pool.proofs.Written.{complete, misfit_few}
 use Rattle.const_pool.specs.declared.write_fault.Part.{Part}
@@ -220,10 +220,10 @@ code_there false has e = (refl, e)
 method_none : (pool : Pool) (double : Bool) (n : ℕ) (m : Member) → IsMethod pool m → double ≡ false → misfits.method pool double n m ≡ None
 unfolding misfits.method
 method_none pool double n m is single =
-    let code = code_there (misfits.is_bare m) (has_code m.attributes) is.code in
+    let code = code_there (is_bare m.flags) (has_code m.attributes) is.code in
     none_both _ _ (unless_true _ _ is.name)
     (none_both _ _ (unless_true _ _ (and_from _ (not double) is.descriptor (ap not single)))
-    (none_both _ _ (attributes_none pool (holders.Method n) [] (misfits.is_bare m) m.attributes code.0 is.attributes) (unless_true _ _ code.1)))
+    (none_both _ _ (attributes_none pool (holders.Method n) [] (is_bare m.flags) m.attributes code.0 is.attributes) (unless_true _ _ code.1)))
 
 methods_none : (pool : Pool) (list : List Member) → IsMembers (IsMethod pool) pool list → misfits.methods pool list ≡ None
 methods_none pool list is =

@@ -22,7 +22,7 @@ use Rattle.class_model.specs.Descriptors.{is_field_descriptor, is_method_descrip
 use Rattle.class_model.specs.Constants.{constant_at, text_at, is_some_that, is_class_constant}
 use Rattle.class_model.specs.Annotations.{is_value_of}
 use Rattle.class_model.specs.Attributes.{Place, in_class, in_field, in_method, in_code, is_known, is_named, is_value_for, has_layout, is_loadable, is_handle, attribute_name}
-use Rattle.class_model.specs.Shape.{is_plain_class, descriptor_text, are_same, most_slots, is_abstract, is_native, is_code_layer, has_code, has_super}
+use Rattle.class_model.specs.Shape.{is_plain_class, descriptor_text, are_same, most_slots, is_bare, is_code_layer, has_code, has_super}
 use Rattle.class_model.specs.Spelling.{greatest_depth, content_by, no_attribute, code_attribute}
 use Rattle.const_pool.specs.Writing as pool
 use Rattle.const_pool.specs.declared.write_fault.Part.{Part}
@@ -248,12 +248,9 @@ field pool double number m =
 abbrev pub fields : Pool → List Member → Option WriteFault
 fields pool members = counted parts.Fields (λ n m. field pool (is_double pool members n m) n m) members
 
-abbrev pub is_bare : Member → Bool
-is_bare m = is_abstract m.flags || is_native m.flags
-
 -- code is there exactly where the method isn't bare
 abbrev pub has_its_code : Member → Bool
-has_its_code m = if is_bare m then not (has_code m.attributes) else has_code m.attributes
+has_its_code m = if is_bare m.flags then not (has_code m.attributes) else has_code m.attributes
 
 -- JVMS 4.6
 unfoldable pub method : Pool → Bool → ℕ → Member → Option WriteFault
@@ -261,7 +258,7 @@ method pool double number m =
     unless (is_some_that is_method_name (text_at pool m.name)) (BadShape (parts.Method number member_parts.Name))
     <|> unless (is_some_that (is_method_descriptor (most_slots m.flags)) (text_at pool m.descriptor) && not double)
     (BadShape (parts.Method number member_parts.Descriptor))
-    <|> attributes pool (holders.Method number) [] (is_bare m) m.attributes
+    <|> attributes pool (holders.Method number) [] (is_bare m.flags) m.attributes
     <|> unless (has_its_code m) (BadShape (parts.Method number member_parts.Code))
 
 abbrev pub methods : Pool → List Member → Option WriteFault

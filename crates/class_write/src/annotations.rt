@@ -12,11 +12,8 @@ ghost use Rattle.class_write.specs.Misfits as misfits;
 ghost use Rattle.const_pool.specs.declared.write_fault.WriteFault.TheVariants as faults;
 
 use crate::order::put_count;
-use class_model::{Element, Note, Pair, Pool};
+use class_model::{Element, GREATEST_DEPTH, Note, Pair, Pool};
 use const_pool::{AttributeId, AttributePart, Part, WriteFault, put_u2};
-
-/// An outermost value has depth 1, and an array and an annotation add 1.
-const GREATEST_DEPTH: u8 = 64;
 
 #[tactic(auto, using(crate::proofs::Faults::faults))]
 fn put_const(

@@ -5,7 +5,7 @@ ghost use Rattle.std.specs.Str.{bytes_eq};
 ghost use Rattle.std.specs.List.{list_any};
 ghost use Rattle.class_model.specs.declared.attribute_forms.Attribute.{out-Attribute};
 ghost use Rattle.class_model.specs.Attributes.{IsCodeAttribute, IsCodeAttributes, IsAttribute, IsAttributes, IsCode, is_known, attribute_name, in_code};
-ghost use Rattle.class_model.specs.Shape.{is_code_layer, has_code};
+ghost use Rattle.class_model.specs.Shape.{is_code_layer};
 ghost use Rattle.class_model.specs.Spelling as spelling;
 ghost use Rattle.class_write.specs.Contents.{HasContent};
 ghost use Rattle.class_write.specs.Misfits as misfits;
@@ -111,22 +111,6 @@ fn has_name(pool: &Pool, holder: Holder, attribute: &Attribute) -> bool
     }
 }
 
-fn is_code_form(attribute: &Attribute) -> bool
-    ensures { result ≡ is_code_layer (out-Attribute attribute.now) }
-{
-    match attribute {
-        Attribute::Code { .. } => true,
-        _ => false,
-    }
-}
-
-/// Whether code is among attributes.
-pub(crate) fn has_code(attributes: &[Attribute]) -> bool
-    ensures { result ≡ has_code attributes.now }
-{
-    attributes.iter().any(|a| is_code_form(a))
-}
-
 /// Whether an attribute may stand among those of a holder. A method that is `bare` has no code.
 #[tactic(auto, unfolding(crate::specs::Misfits::may_stand))]
 fn may_stand(pool: &Pool, holder: Holder, bare: bool, attribute: &Attribute) -> bool
@@ -141,26 +125,13 @@ fn may_stand(pool: &Pool, holder: Holder, bare: bool, attribute: &Attribute) -> 
     if !bare {
         return true;
     }
-    !is_code_form(attribute)
-}
-
-fn name_of(attribute: &Attribute) -> u16
-    ensures { result ≡ spelling.name_of (out-Attribute attribute.now) }
-{
-    match attribute {
-        Attribute::Code { name, .. } => *name,
-        Attribute::StackMap { name, .. } => *name,
-        Attribute::ConstantValue { name, .. } => *name,
-        Attribute::Bootstrap { name, .. } => *name,
-        Attribute::Annotations { name, .. } => *name,
-        Attribute::Other { name, .. } => *name,
-    }
+    !attribute.is_code()
 }
 
 fn attribute_name<'a>(pool: &'a Pool, attribute: &Attribute) -> &'a [u8]
     ensures { result.now ≡ attribute_name pool.now attribute.now }
 {
-    pool.text_or_empty(name_of(attribute))
+    pool.text_or_empty(attribute.name())
 }
 
 fn stands_among(pool: &Pool, list: &[Attribute], name: &[u8]) -> bool
@@ -254,7 +225,7 @@ fn put_code_attribute(
     }
     let mut content = Vec::new(alloc);
     put_plain(&mut content, pool, &[], id, attribute)?;
-    put_framed(out, id, name_of(attribute), content.as_slice())?;
+    put_framed(out, id, attribute.name(), content.as_slice())?;
     Ok(())
 }
 
@@ -397,7 +368,7 @@ fn put_attribute(
     }
     let mut content = Vec::new(alloc);
     put_content(&mut content, alloc, pool, stand.descriptor, id, attribute)?;
-    put_framed(out, id, name_of(attribute), content.as_slice())?;
+    put_framed(out, id, attribute.name(), content.as_slice())?;
     Ok(())
 }
 

@@ -15,12 +15,10 @@ ghost use Rattle.class_write.specs.Order.{Refuses};
 use crate::attributes::{Stand, put_attributes};
 use crate::members::{put_fields, put_methods};
 use crate::order::put_count;
-use class_model::{Class, Pool};
+use class_model::{Class, MAGIC, Pool};
 use const_pool::{Holder, Part, WriteFault, put_u2, put_u4, write_pool};
 use std::alloc::Global;
 use tree_value::Bytes;
-
-const MAGIC: u32 = 0xcafe_babe;
 
 /// Writes the magic number and the versions.
 #[tactic(auto, using(crate::proofs::Faults::faults))]

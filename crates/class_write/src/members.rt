@@ -3,15 +3,15 @@
 ghost use Rattle.std.specs.Prelude.{◌≡◌, ◌++◌, ◌∷◌, [], ◌<◌, ◌^◌, List, true, false, length, None, IfOk, OnOk, IfErr, IsOkUnless};
 ghost use Rattle.std.specs.List.{list_any};
 ghost use Rattle.class_model.specs.declared.class_file.Member.{Member};
-ghost use Rattle.class_model.specs.Shape.{IsField, IsMethod, IsMembers, are_same, most_slots};
+ghost use Rattle.class_model.specs.Shape.{IsField, IsMethod, IsMembers, are_same};
 ghost use Rattle.class_model.specs.SeenMembers.{HasSeen};
 ghost use Rattle.class_model.specs.Spelling as spelling;
 ghost use Rattle.class_write.specs.Misfits as misfits;
 ghost use Rattle.class_write.specs.Order.{Refuses};
 
-use crate::attributes::{Stand, has_code, put_attributes};
+use crate::attributes::{Stand, put_attributes};
 use crate::order::put_count;
-use class_model::{Member, MemberNames, Pool};
+use class_model::{Member, MemberNames, Pool, has_code, is_bare, most_slots};
 use const_pool::{Holder, MemberPart, Part, WriteFault, put_u2};
 use std::alloc::Global;
 
@@ -95,25 +95,11 @@ pub(crate) fn put_fields(
     Ok(())
 }
 
-/// Whether a method is abstract or native, and so has no code.
-fn is_bare(method: &Member) -> bool
-    ensures { result ≡ misfits.is_bare method.now }
-{
-    method.flags & 0x0400 != 0 || method.flags & 0x0100 != 0
-}
-
-/// The slots that its parameters may take, without `this`.
-fn most_slots(method: &Member) -> u8
-    ensures { result ≡ most_slots method.now.flags }
-{
-    if method.flags & 0x0008 != 0 { 255 } else { 254 }
-}
-
 fn has_its_code(method: &Member) -> bool
     ensures { result ≡ misfits.has_its_code method.now }
 {
     let has = has_code(method.attributes.as_slice());
-    if is_bare(method) { !has } else { has }
+    if is_bare(method.flags) { !has } else { has }
 }
 
 /// Writes the method of a number. Where it is a `double`, an earlier one has its name and descriptor.
@@ -135,14 +121,14 @@ fn put_method(
     if !pool.is_method_name(method.name) {
         return Err(WriteFault::BadShape(Part::Method(number, MemberPart::Name)));
     }
-    if !pool.is_method_type(most_slots(method), method.descriptor) || double {
+    if !pool.is_method_type(most_slots(method.flags), method.descriptor) || double {
         return Err(WriteFault::BadShape(Part::Method(number, MemberPart::Descriptor)));
     }
     put_head(out, method)?;
     let stand = Stand {
         holder: Holder::Method(number),
         descriptor: &[],
-        bare: is_bare(method),
+        bare: is_bare(method.flags),
     };
     put_attributes(out, alloc, pool, stand, method.attributes.as_slice())?;
     if !has_its_code(method) {
