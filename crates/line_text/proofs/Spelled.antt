@@ -100,3 +100,7 @@ all_put done whole units so_far e = let none = line_of_none units e in sym (appe
 pub no_items : (units : List ℕ) → length units ≡ 0 → units ≡ []
 no_items [] none = refl
 no_items (u ∷ units) none = absurd (omega arith)
+
+-- What is put is as long as what was there before.
+pub longer_too : (before done put more : List ℕ) → length before ≤ length done → put ≡ done ++ more → length before ≤ length put
+longer_too before done put more fits is = omega (arith, fits, ap length is ∙ length-append done more)

@@ -1,6 +1,6 @@
 //! Printing character by character.
 
-ghost use Rattle.std.specs.Prelude.{◌≡◌, ◌++◌, ◌∷◌, ◌<◌, ◌≤◌, ◌&&◌, OnOk, Some, None, if◌then◌else◌, length};
+ghost use Rattle.std.specs.Prelude.{◌≡◌, ◌++◌, ◌∷◌, ◌<◌, ◌≤◌, ◌&&◌, OnOk, OnErr, Some, None, if◌then◌else◌, length, take, vec_len};
 ghost use Rattle.std.specs.Char.{digit_char};
 ghost use Rattle.std.specs.Char.Utf16.{is_high_surrogate, is_low_surrogate, surrogate_pair_char, lone_unit_char, utf16_chars};
 ghost use Rattle.line_text.specs.Lines.{escaped, line_of_byte, line_of_char, line_of_spelled, line_of_units, line_of_name, line_of_path, units_of_name};
@@ -24,7 +24,8 @@ fn digit(value: u8) -> u8
 /// Appends a control character of ASCII.
 fn push_escaped(text: &mut Vec<u8>, control: u8) -> Result<(), AllocError>
     requires { control < 128 }
-    ensures { OnOk result (text.new.items ≡ text.old.items ++ escaped control) }
+    ensures ok { OnOk result (text.new.items ≡ text.old.items ++ escaped control) }
+    ensures err { OnErr result (text.new.items ≡ text.old.items) }
 {
     let digits = [
         b'\\',
@@ -39,7 +40,8 @@ fn push_escaped(text: &mut Vec<u8>, control: u8) -> Result<(), AllocError>
 
 #[tactic(auto, unfolding(crate::specs::Lines::line_of_byte))]
 fn push_byte(text: &mut Vec<u8>, byte: u8) -> Result<(), AllocError>
-    ensures { OnOk result (text.new.items ≡ text.old.items ++ line_of_byte byte) }
+    ensures ok { OnOk result (text.new.items ≡ text.old.items ++ line_of_byte byte) }
+    ensures err { OnErr result (text.new.items ≡ text.old.items) }
 {
     match byte {
         0..0x20 | 0x7f => push_escaped(text, byte),
@@ -50,7 +52,8 @@ fn push_byte(text: &mut Vec<u8>, byte: u8) -> Result<(), AllocError>
 
 #[tactic(auto, unfolding(crate::specs::Lines::line_of_char))]
 fn push_char(text: &mut Vec<u8>, c: char) -> Result<(), AllocError>
-    ensures { OnOk result (text.new.items ≡ text.old.items ++ line_of_char c) }
+    ensures ok { OnOk result (text.new.items ≡ text.old.items ++ line_of_char c) }
+    ensures err { OnErr result (text.new.items ≡ text.old.items) }
 {
     let code = c as u32;
     if code < 0x80 {
@@ -61,7 +64,8 @@ fn push_char(text: &mut Vec<u8>, c: char) -> Result<(), AllocError>
 }
 
 fn push_spelled(text: &mut Vec<u8>, spelled: Option<char>) -> Result<(), AllocError>
-    ensures { OnOk result (text.new.items ≡ text.old.items ++ line_of_spelled spelled) }
+    ensures ok { OnOk result (text.new.items ≡ text.old.items ++ line_of_spelled spelled) }
+    ensures err { OnErr result (text.new.items ≡ text.old.items) }
 {
     match spelled {
         Some(c) => push_char(text, c),
@@ -119,9 +123,10 @@ fn take_unit_of_name(first: u16, behind: &[u8]) -> (Option<char>, &[u8])
     }
 }
 
-/// Appends the text of units of UTF-16. Without memory some front of it may stand there.
-pub fn push_units(text: &mut Vec<u8>, units: &[u16]) -> Result<(), AllocError>
+/// Appends the text of units of UTF-16. Without memory some front of it stands there.
+fn push_all_units(text: &mut Vec<u8>, units: &[u16]) -> Result<(), AllocError>
     ensures ok { OnOk result (text.new.items ≡ text.old.items ++ line_of_units units.now) }
+    ensures front { OnErr result (take (vec_len text.old) text.new.items ≡ text.old.items) }
 {
     let mut rest = units;
     'each: while let Some((first, behind)) = rest.split_first() {
@@ -132,9 +137,25 @@ pub fn push_units(text: &mut Vec<u8>, units: &[u16]) -> Result<(), AllocError>
     Ok(())
 }
 
+/// Appends the text of units of UTF-16. Without memory the text stays.
+pub fn push_units(text: &mut Vec<u8>, units: &[u16]) -> Result<(), AllocError>
+    ensures ok { OnOk result (text.new.items ≡ text.old.items ++ line_of_units units.now) }
+    ensures err { OnErr result (text.new.items ≡ text.old.items) }
+{
+    let before = text.len();
+    match push_all_units(text, units) {
+        Ok(()) => Ok(()),
+        Err(fault) => {
+            text.truncate(before);
+            Err(fault)
+        }
+    }
+}
+
 fn push_name_bytes(text: &mut Vec<u8>, name: &[u8]) -> Result<(), AllocError>
     requires { IsModifiedUtf8 name.now }
-    ensures { OnOk result (text.new.items ≡ text.old.items ++ line_of_name name.now) }
+    ensures ok { OnOk result (text.new.items ≡ text.old.items ++ line_of_name name.now) }
+    ensures front { OnErr result (take (vec_len text.old) text.new.items ≡ text.old.items) }
 {
     let mut rest = name;
     'each: while let Some((first, behind)) = unit_in(rest) {
@@ -145,19 +166,42 @@ fn push_name_bytes(text: &mut Vec<u8>, name: &[u8]) -> Result<(), AllocError>
     Ok(())
 }
 
-/// Appends a name of a class or method, or a descriptor. Without memory some front of it may stand there.
+/// Appends a name of a class or method, or a descriptor. Without memory the text stays.
 pub fn push_name(text: &mut Vec<u8>, name: &Name) -> Result<(), AllocError>
     ensures ok { OnOk result (text.new.items ≡ text.old.items ++ line_of_name name.now) }
+    ensures err { OnErr result (text.new.items ≡ text.old.items) }
 {
-    push_name_bytes(text, name.as_slice())
+    let before = text.len();
+    match push_name_bytes(text, name.as_slice()) {
+        Ok(()) => Ok(()),
+        Err(fault) => {
+            text.truncate(before);
+            Err(fault)
+        }
+    }
 }
 
-/// Appends a path. Without memory some front of it may stand there.
-pub fn push_path(text: &mut Vec<u8>, path: &Path) -> Result<(), AllocError>
-    ensures ok { OnOk result (text.new.items ≡ text.old.items ++ line_of_path path.now) }
+fn push_bytes(text: &mut Vec<u8>, bytes: &[u8]) -> Result<(), AllocError>
+    ensures ok { OnOk result (text.new.items ≡ text.old.items ++ line_of_path bytes.now) }
+    ensures front { OnErr result (take (vec_len text.old) text.new.items ≡ text.old.items) }
 {
-    for byte in path.as_slice() {
+    for byte in bytes {
         push_byte(text, *byte)?;
     }
     Ok(())
+}
+
+/// Appends a path. Without memory the text stays.
+pub fn push_path(text: &mut Vec<u8>, path: &Path) -> Result<(), AllocError>
+    ensures ok { OnOk result (text.new.items ≡ text.old.items ++ line_of_path path.now) }
+    ensures err { OnErr result (text.new.items ≡ text.old.items) }
+{
+    let before = text.len();
+    match push_bytes(text, path.as_slice()) {
+        Ok(()) => Ok(()),
+        Err(fault) => {
+            text.truncate(before);
+            Err(fault)
+        }
+    }
 }

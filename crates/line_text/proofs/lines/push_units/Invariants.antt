@@ -1,9 +1,0 @@
-use Rattle.std.proofs.Common.{◌≡◌, ◌++◌, length}
-use Rattle.line_text.specs.Lines.{line_of_units}
-use Rattle.line_text.proofs.lines.push_units.Given as goal
-
-abbrev pub invariant-each : goal.invariant-each
-invariant-each l = l.text.items ++ line_of_units l.rest ≡ l.fn.text.items ++ line_of_units l.units
-
-abbrev pub decreases-each : goal.decreases-each
-decreases-each l = length l.rest
