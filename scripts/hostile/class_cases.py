@@ -166,8 +166,8 @@ def bootstraps_of_long_arguments(size):
 
 
 def interfaces_in_levels(size):
-    """4,000 interfaces in 40 levels, each below all 100 of the level before; at half, 70 in each of 28 levels."""
-    levels, width = (40, 100) if size == 1 else (28, 70)
+    """4,000 interfaces in 40 levels, each below all 100 of the level before; at half, 20 levels."""
+    levels, width = 40 // size, 100
     folder = {}
     for level in range(levels):
         for at in range(width):
