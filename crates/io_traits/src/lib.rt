@@ -25,6 +25,3 @@ pub use plans::Leaves;
 pub use stores::Store;
 pub use streams::{Sink, Source};
 pub use workspaces::Workspace;
-
-#[cfg(test)]
-mod tests;
