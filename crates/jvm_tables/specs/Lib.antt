@@ -11,6 +11,7 @@ pub mod Laws
 pub mod Natives
 pub mod Numbering
 pub mod Once
+pub mod OpcodeSpace
 pub mod Opcodes
 pub mod Operations
 pub mod Pushed

@@ -35,8 +35,8 @@ pub use natives::{
 };
 pub use opcodes::{
     OPCODES, float_operations_are_float, op_row, opcodes_agree_with_their_forms,
-    opcodes_are_numbered_by_their_operations, opcodes_do_as_their_operations, opcodes_stand_once,
-    thrown_classes_are_external,
+    opcodes_are_numbered_by_their_operations, opcodes_do_as_their_operations, opcodes_have_rows,
+    opcodes_stand_once, thrown_classes_are_external,
 };
 pub use pushed::{PushedNumber, pushed_number};
 pub use switching::{is_switch, switch_case, switch_len, switch_target};

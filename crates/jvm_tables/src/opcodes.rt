@@ -5,6 +5,7 @@ ghost use Rattle.jvm_tables.specs.Agreement.{agrees, same};
 ghost use Rattle.jvm_tables.specs.ByOperation.{TakesAsTold, GivesAsTold, ReadsAsTold, WritesAsTold, FlowsAsTold, ThrowsAsTold, NamesAsTold, InitialisesAsTold};
 ghost use Rattle.jvm_tables.specs.Numbering.{is_numbered};
 ghost use Rattle.jvm_tables.specs.Operations.{is_float};
+ghost use Rattle.jvm_tables.specs.OpcodeSpace.{is_told_from};
 ghost use Rattle.jvm_tables.specs.Opcodes.{row_of, find_row, stands_from, every};
 ghost use Rattle.jvm_tables.specs.Thrown.{thrown, are_throwables};
 
@@ -302,6 +303,12 @@ pub fn opcodes_do_as_their_operations()
 /// opcode stands after the one that implies 0.
 pub fn opcodes_are_numbered_by_their_operations()
     ensures { IsTrue (every is_numbered OPCODES) }
+{}
+
+/// Each opcode up to 200 has a row but for those of subroutines, and its row is float use exactly where the
+/// opcode is one on floats or doubles.
+pub fn opcodes_have_rows()
+    ensures { IsTrue (is_told_from 0 OPCODES) }
 {}
 
 /// A row is float use where its operation is.
