@@ -1,6 +1,16 @@
+pub mod Entries
+pub mod Families
 pub mod Firsts
 pub mod Fitting
+pub mod Formed
+pub mod Given
+pub mod Lefts
 pub mod Methods
+pub mod Monotone
+pub mod Moves
+pub mod Ordering
+pub mod PairedLocals
+pub mod PairedStacks
 pub mod Points
 pub mod Safe
 pub mod Sizes

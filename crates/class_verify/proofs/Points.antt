@@ -60,12 +60,20 @@ mapped : {A B : Type 0} (f : A → B) (o : Option A) (b : B) → option_map f o 
 mapped f None b h = cc
 mapped f (Some a) b h = let e : f a ≡ b = cc in (a, refl, e)
 
-following_place : (body : Body) (p q : Point) → following body p ≡ Some q → next_place body.code p.pc ≡ Some q.pc
+pub following_place : (body : Body) (p q : Point) → following body p ≡ Some q → next_place body.code p.pc ≡ Some q.pc
 unfolding following
 following_place body p q h =
     let f : ℕ → Point = λ pc. record { pc = pc; arrives = fallen body (shape_before body p) (decoded body.code p.pc) } in
     let m : (pc : ℕ) × (next_place body.code p.pc ≡ Some pc) × (f pc ≡ q) = mapped f (next_place body.code p.pc) q h in
     m.1 ∙ ap Some (ap (λ (r : Point). r.pc) m.2)
+
+-- what arrives there is what this one leaves
+pub following_arrives : (body : Body) (p q : Point) → following body p ≡ Some q → q.arrives ≡ fallen body (shape_before body p) (decoded body.code p.pc)
+unfolding following
+following_arrives body p q h =
+    let f : ℕ → Point = λ pc. record { pc = pc; arrives = fallen body (shape_before body p) (decoded body.code p.pc) } in
+    let m : (pc : ℕ) × (next_place body.code p.pc ≡ Some pc) × (f pc ≡ q) = mapped f (next_place body.code p.pc) q h in
+    sym (ap (λ (r : Point). r.arrives) m.2)
 
 pub following_rises : (body : Body) (p q : Point) → following body p ≡ Some q → p.pc < q.pc
 following_rises body p q h = (next_rises body.code p.pc q.pc (following_place body p q h)).0

@@ -49,7 +49,7 @@ holds true cause e = refl
 holds false cause e = cc
 
 -- what a whole list passes each of its items passes
-passes : {X : Type 0} (test : X → Bool) (xs : List X) (x : X) → list_all test xs ≡ true → Contains xs x → test x ≡ true
+pub passes : {X : Type 0} (test : X → Bool) (xs : List X) (x : X) → list_all test xs ≡ true → Contains xs x → test x ≡ true
 passes test xs x all c =
     elim (cases_Bool (test x)) [
       | inl e ↦ e
@@ -64,11 +64,21 @@ no_cause body n p fit there = by_cause (cause_at body p) refl
     by_cause None e = e
     by_cause (Some cause) e = absurd (fit p.pc cause (at_instruction n p cause there e))
 
+neither : (a b : Bool) → not (a || b) ≡ true → a ≡ false
+neither true b e = cc
+neither false b e = refl
+
+not_so : (b : Bool) → not b ≡ true → b ≡ false
+not_so true e = cc
+not_so false e = refl
+
 -- An instruction that has no cause, with its row.
-record Sure (body : Body) (p : Point) : Type 0 where
+pub record Sure (body : Body) (p : Point) : Type 0 where
   pub instr : Instr
   pub row : OpRow
   pub decodes : decoded body.code p.pc ≡ Ok (instr, row)
+  pub no_float : uses_float body.class row instr ≡ false
+  pub known_site : has_unknown_site body.class row instr ≡ false
   pub jumps : list_all (begins body.code) (targets_by row.flow body.code instr) ≡ true
   pub sound : is_sound body row instr (shape_before body p) ≡ true
 
@@ -81,21 +91,29 @@ sure_of body p (Ok found) d e =
     × ((unless (not (has_unknown_site body.class found.1 found.0)) UnknownBootstrap <|> unless (list_all (begins body.code) (targets_by found.1.flow body.code found.0)) BadJump) ≡ None) = none_first _ _ split.0 in
     let sites : (unless (not (has_unknown_site body.class found.1 found.0)) UnknownBootstrap ≡ None)
     × (unless (list_all (begins body.code) (targets_by found.1.flow body.code found.0)) BadJump ≡ None) = none_first _ _ names.1 in
-    record { instr = found.0; row = found.1; decodes = d; jumps = holds _ _ sites.1; sound = holds _ _ split.1 }
+    record {
+      instr = found.0;
+      row = found.1;
+      decodes = d;
+      no_float = neither _ _ (holds _ _ names.0);
+      known_site = not_so _ (holds _ _ sites.0);
+      jumps = holds _ _ sites.1;
+      sound = holds _ _ split.1;
+    }
 
-sure : (body : Body) (n : ℕ) (p : Point) → BodyFits body → point_of body n ≡ Some p → Sure body p
+pub sure : (body : Body) (n : ℕ) (p : Point) → BodyFits body → point_of body n ≡ Some p → Sure body p
 unfolding cause_at
 sure body n p fit there = sure_of body p (decoded body.code p.pc) refl (no_cause body n p fit there)
 
 -- An instruction that is sound leaves a shape, and all that is asked of it holds.
-record Sound (body : Body) (instr : Instr) (row : OpRow) (shape : Shape) : Type 0 where
+pub record Sound (body : Body) (instr : Instr) (row : OpRow) (shape : Shape) : Type 0 where
   pub caught : list_all (catches body.code body.frames instr.pc shape.locals) body.table ≡ true
   pub after : Shape
   pub leaves : left body.class body.limits.stack row instr shape ≡ Some after
   pub accepted : list_all (accepts body.code body.frames after) (targets_by row.flow body.code instr) ≡ true
   pub ends : ends_well body instr.pc row.flow row.takes ≡ true
 
-sound_of : (body : Body) (instr : Instr) (row : OpRow) (shape : Shape) → is_sound body row instr (Some shape) ≡ true → Sound body instr row shape
+pub sound_of : (body : Body) (instr : Instr) (row : OpRow) (shape : Shape) → is_sound body row instr (Some shape) ≡ true → Sound body instr row shape
 sound_of body instr row shape e =
     let split : (list_all (catches body.code body.frames instr.pc shape.locals) body.table ≡ true) × (is_sound_after body row instr (left body.class body.limits.stack row instr shape) ≡ true) = both _ _ e in
     after_of (left body.class body.limits.stack row instr shape) refl split.0 split.1
@@ -108,12 +126,12 @@ sound_of body instr row shape e =
         record { caught = c; after = after; leaves = l; accepted = split.0; ends = split.1 }
 
 -- and it has a shape
-has_one : (body : Body) (instr : Instr) (row : OpRow) (before : Option Shape) → is_sound body row instr before ≡ true → (shape : Shape) × (before ≡ Some shape)
+pub has_one : (body : Body) (instr : Instr) (row : OpRow) (before : Option Shape) → is_sound body row instr before ≡ true → (shape : Shape) × (before ≡ Some shape)
 has_one body instr row None e = cc
 has_one body instr row (Some shape) e = (shape, refl)
 
 -- the point behind one
-next_point : (body : Body) (p : Point) (q : ℕ) → next_place body.code p.pc ≡ Some q
+pub next_point : (body : Body) (p : Point) (q : ℕ) → next_place body.code p.pc ≡ Some q
     → following body p ≡ Some (record { pc = q; arrives = fallen body (shape_before body p) (decoded body.code p.pc) })
 unfolding following
 next_point body p q e = ap (option_map _) e
@@ -141,27 +159,27 @@ unfolding begins point_of
 begun body q e = reached body (length body.code) zero (first_point body) q refl e
 
 -- each kind fits itself
-kind_fits : (k : Kind) → fits k k ≡ true
+pub kind_fits : (k : Kind) → fits k k ≡ true
 kind_fits kinds.Top = refl
 kind_fits kinds.Int = refl
 kind_fits kinds.Long = refl
 kind_fits kinds.Reference = refl
 
-all_fit_selves : (ks : List Kind) → all_fit ks ks ≡ true
+pub all_fit_selves : (ks : List Kind) → all_fit ks ks ≡ true
 all_fit_selves [] = refl
 all_fit_selves (k ∷ ks) = ap (λ b. b && all_fit ks ks) (kind_fits k) ∙ all_fit_selves ks
 
-shape_fits_itself : (s : Shape) → shape_fits s s ≡ true
+pub shape_fits_itself : (s : Shape) → shape_fits s s ≡ true
 shape_fits_itself s = ap (λ b. b && all_fit s.locals s.locals) (all_fit_selves s.stack) ∙ all_fit_selves s.locals
 
 -- What is joined with a frame's shape is that shape.
-joined_is : (arrives : Option Shape) (wanted found : Shape) → joined_to arrives wanted ≡ Some found → wanted ≡ found
+pub joined_is : (arrives : Option Shape) (wanted found : Shape) → joined_to arrives wanted ≡ Some found → wanted ≡ found
 joined_is None wanted found e = cc
 joined_is (Some shape) wanted found e =
     elim (shape_fits shape wanted) as (λ b. cond b (Some wanted) None ≡ Some found → wanted ≡ found) [ true ↦ λ s. cc | false ↦ λ s. cc ] e
 
 -- where there is a shape, it is joined from what arrives and the frame
-before_is : (body : Body) (p : Point) (shape : Shape) → shape_before body p ≡ Some shape → joined p.arrives (frame_at body.code body.frames p.pc) ≡ Some shape
+pub before_is : (body : Body) (p : Point) (shape : Shape) → shape_before body p ≡ Some shape → joined p.arrives (frame_at body.code body.frames p.pc) ≡ Some shape
 unfolding shape_before
 before_is body p shape e =
     elim (p.pc == 0 && is_none body.first) as (λ b. cond b None (joined p.arrives (frame_at body.code body.frames p.pc)) ≡ Some shape → joined p.arrives (frame_at body.code body.frames p.pc) ≡ Some shape)
@@ -259,7 +277,7 @@ handled body pc locals h fit all c covered =
     caught body h.handler locals fit (sym (ap (λ b. not b || is_caught locals (frame_at body.code body.frames h.handler)) covered) ∙ e)
 
 -- what is left of a shape is within the limit
-limited_is : (most : ℕ) (locals stack : List Kind) (after : Shape) → limited most locals stack ≡ Some after → length after.stack ≤ most
+pub limited_is : (most : ℕ) (locals stack : List Kind) (after : Shape) → limited most locals stack ≡ Some after → length after.stack ≤ most
 limited_is most locals stack after e =
     elim (nat_le (length stack) most) as (λ b. nat_le (length stack) most ≡ b → cond b (Some (shape_with stack locals)) None ≡ Some after → length after.stack ≤ most)
     [ true ↦ λ le s. (let same : shape_with stack locals ≡ after = cc in subst (λ (x : Shape). length x.stack ≤ most) same (leb-true (length stack) most le)) | false ↦ λ le s. cc ] refl e
@@ -280,7 +298,7 @@ left_limited class most row instr shape after e = by_locals (locals_after row in
     by_locals (Some locals) s = by_stack locals (stack_after class row instr shape.stack) s
 
 -- where control goes on there is an instruction
-goes_on : (body : Body) (pc : ℕ) (flow : Flow) (takes : Operands) → falls flow ≡ true → ends_well body pc flow takes ≡ true → is_some (next_place body.code pc) ≡ true
+pub goes_on : (body : Body) (pc : ℕ) (flow : Flow) (takes : Operands) → falls flow ≡ true → ends_well body pc flow takes ≡ true → is_some (next_place body.code pc) ≡ true
 goes_on body pc flows.Next takes f e = e
 goes_on body pc flows.Branch takes f e = e
 goes_on body pc flows.Jump takes f e = cc
@@ -288,11 +306,11 @@ goes_on body pc flows.Switch takes f e = cc
 goes_on body pc flows.Return takes f e = cc
 goes_on body pc flows.Throw takes f e = cc
 
-some_is : (o : Option ℕ) → is_some o ≡ true → (x : ℕ) × (o ≡ Some x)
+pub some_is : (o : Option ℕ) → is_some o ≡ true → (x : ℕ) × (o ≡ Some x)
 some_is None e = cc
 some_is (Some x) e = (x, refl)
 
-joined_fits : (after found : Shape) (frame : Option Written) → joined (Some after) frame ≡ Some found → shape_fits after found ≡ true
+pub joined_fits : (after found : Shape) (frame : Option Written) → joined (Some after) frame ≡ Some found → shape_fits after found ≡ true
 joined_fits after found None e = let same : after ≡ found = cc in subst (λ s. shape_fits after s ≡ true) same (shape_fits_itself after)
 joined_fits after found (Some w) e = by_shape w.shape e
   where
@@ -315,7 +333,7 @@ next_met body n p q after fit there next left_here =
     (good.0, (suc n, r, at, refl, good.1), joined_fits after good.0 (frame_at body.code body.frames q) join)
 
 -- an instruction stands at its place
-decoded_place : (code : List ℕ) (pc : ℕ) (instr : Instr) (row : OpRow) → decoded code pc ≡ Ok (instr, row) → instr.pc ≡ pc
+pub decoded_place : (code : List ℕ) (pc : ℕ) (instr : Instr) (row : OpRow) → decoded code pc ≡ Ok (instr, row) → instr.pc ≡ pc
 unfolding decoded
 decoded_place code pc instr row e = by_decoding (decoding pc (drop pc code)) refl e
   where
@@ -332,7 +350,7 @@ decoded_place code pc instr row e = by_decoding (decoding pc (drop pc code)) ref
     by_decoding (Err CutShort) d s = cc
     by_decoding (Err BadOperand) d s = cc
 
-falls_to : (body : Body) (shape after : Shape) (instr : Instr) (row : OpRow) → falls row.flow ≡ true → left body.class body.limits.stack row instr shape ≡ Some after
+pub falls_to : (body : Body) (shape after : Shape) (instr : Instr) (row : OpRow) → falls row.flow ≡ true → left body.class body.limits.stack row instr shape ≡ Some after
     → fallen body (Some shape) (Ok (instr, row)) ≡ Some after
 falls_to body shape after instr row f l = ap (λ b. cond b (left body.class body.limits.stack row instr shape) None) f ∙ l
 
@@ -354,6 +372,8 @@ each_is_safe body pc shape fit has =
       good.after,
       record {
         decodes = ap (decoded body.code) (sym place) ∙ is.decodes;
+        no_float = is.no_float;
+        known_site = is.known_site;
         leaves = good.leaves;
         stack = left_limited body.class body.limits.stack is.row is.instr shape good.after good.leaves;
         targets = λ target c. met body target good.after fit

@@ -7,8 +7,13 @@ pub mod Frames
 pub mod Groups
 pub mod Kinds
 pub mod Laws
+pub mod LawsOfEntries
+pub mod LawsOfFamilies
+pub mod LawsOfInstructions
+pub mod LawsOfShapes
 pub mod Locals
 pub mod Misfits
+pub mod Pairs
 pub mod Places
 pub mod Programs
 pub mod Ready

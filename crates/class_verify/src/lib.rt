@@ -23,7 +23,10 @@ pub use fault::VerifyFault;
 pub use floats::uses_float;
 pub use frames::{Limits, Written};
 pub use kinds::Kind;
-pub use laws::code_that_fits_is_safe;
+pub use laws::{
+    code_that_fits_begins, code_that_fits_is_safe, code_with_shapes_fits,
+    instructions_leave_by_parts, shapes_are_formed, shapes_that_fit_leave_so,
+};
 pub use locals::Locals;
 pub use program_ok::{CheckFault, ProgramOk};
 pub use shape::Shape;
