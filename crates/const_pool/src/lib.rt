@@ -8,6 +8,7 @@ mod numbers;
 mod pool_fault;
 mod pool_reader;
 mod pool_writer;
+mod room;
 mod targets;
 mod text_forms;
 mod write_fault;
@@ -17,6 +18,7 @@ pub use numbers::{u2_in, u4_in, u8_in};
 pub use pool_fault::PoolFault;
 pub use pool_reader::read_pool;
 pub use pool_writer::{put_u2, put_u4, write_pool};
+pub use room::items_with_room;
 pub use write_fault::{AttributeId, AttributePart, Holder, MemberPart, Part, WriteFault};
 
 #[cfg(test)]

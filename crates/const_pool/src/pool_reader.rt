@@ -13,6 +13,7 @@ ghost use Rattle.const_pool.specs.Faults.{Gives, Fails, IsOkUnlessMemory, behind
 use crate::judged_pool::JudgedPool;
 use crate::numbers::{u2_in, u4_in, u8_in};
 use crate::pool_fault::PoolFault;
+use crate::room::items_with_room;
 use crate::targets::has_targets;
 use crate::text_forms::TextTable;
 use class_model::{Constant, Constants, Pool, is_modified_utf8};
@@ -225,7 +226,7 @@ fn constants_in(
 ) -> Result<(Constants, &[u8]), PoolFault>
     ensures { Gives (λ r. (r.0, r.1.now)) result (constants_at end false numbers bytes.now) }
 {
-    let mut constants = Items::new(alloc);
+    let mut constants = items_with_room(alloc, numbers, bytes.len(), 3)?;
     let mut rest = bytes;
     let mut due = false;
     for read in 0..numbers {
