@@ -1,9 +1,11 @@
 //! Paths, texts and trees.
 
-use crate::listed::{files_of, files_text, path_of, printed};
+use crate::listed::{files_of, files_text, path_of, printed, text_of};
 use questions::{Unanswered, bytes_of};
 use std::alloc::{AllocError, Global};
-use tree_value::{Path, PathFault, Text, TextFault, Tree, TreeFault};
+use tree_value::{
+    Digest, Path, PathFault, PathRef, Text, TextFault, Tree, TreeFault, Value, Values,
+};
 
 fn path_answer(alloc: Global, bytes: &[u8]) -> Result<&'static str, Unanswered> {
     match Path::of(alloc, bytes) {
@@ -62,6 +64,28 @@ fn below_answer(alloc: Global, path: &Path, names: &[&str]) -> Result<String, Un
     }
 }
 
+fn reference_of(alloc: Global, owner: &str, path: &str) -> Result<PathRef, Unanswered> {
+    Ok(PathRef {
+        owner: text_of(alloc, owner)?,
+        path: path_of(alloc, path)?,
+        digest: Digest::of([7; 32]),
+    })
+}
+
+/// What stands in a copy of a list of a reference and an empty list.
+fn copied_answer(alloc: Global) -> Result<&'static str, Unanswered> {
+    let mut items = Vec::new(alloc);
+    items.push(Value::Ref(reference_of(alloc, "a", "f")?))?;
+    items.push(Value::List(Values::new(alloc)))?;
+    let copy = Values::from_vec(items)
+        .copy()
+        .map_err(|_| Unanswered::Memory)?;
+    Ok(match copy.as_slice() {
+        [Value::Ref(_), Value::List(_)] => "a reference and a list",
+        _ => "others",
+    })
+}
+
 pub fn answer_to(alloc: Global, words: &[&str]) -> Result<String, Unanswered> {
     match words {
         ["path", word] => {
@@ -70,6 +94,7 @@ pub fn answer_to(alloc: Global, words: &[&str]) -> Result<String, Unanswered> {
         ["text", word] => {
             Ok(text_answer(alloc, bytes_of(alloc, word)?.as_slice())?.to_string(alloc)?)
         }
+        ["copied"] => Ok(copied_answer(alloc)?.to_string(alloc)?),
         ["tree", names @ ..] => tree_answer(alloc, names),
         ["file", path, names @ ..] => file_answer(alloc, &path_of(alloc, path)?, names),
         ["below", path, names @ ..] => below_answer(alloc, &path_of(alloc, path)?, names),

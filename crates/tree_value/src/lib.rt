@@ -10,8 +10,6 @@ mod lists;
 mod order;
 mod path;
 mod sequence;
-#[cfg(test)]
-mod tests;
 mod text;
 mod tree;
 mod value;
