@@ -9,7 +9,8 @@ use Rattle.class_model.specs.Shape.{descriptor_text}
 use Rattle.class_verify.specs.declared.frames.Limits.{Limits}
 use Rattle.class_verify.specs.declared.kinds.Kind.{Kind}
 use Rattle.class_verify.specs.declared.shape.Shape.{Shape}
-use Rattle.class_verify.specs.Frames.{slots_of, all_slots, type_of, first_kinds, padded, shape_of}
+use Rattle.class_verify.specs.Frames.{slots_of, all_slots, type_of, first_kinds, shape_of}
+use Rattle.class_verify.specs.Padding.{padded}
 use Rattle.class_verify.specs.Kinds.{slots}
 use Rattle.class_verify.specs.LawsOfEntries.{EachEntryIsTold}
 use Rattle.class_verify.specs.Verified.{limits_of, body_of}

@@ -39,7 +39,7 @@ fit_lengths [] (w ∷ b) n = refl
 fit_lengths (k ∷ a) [] n = refl
 fit_lengths (k ∷ a) (w ∷ b) n = ap (λ c. fits k w && c) (fit_lengths a b (λ e. n (ap (λ m. suc m) e))) ∙ and_false (fits k w)
 
-fit-append : (a b x y : List Kind) → length a ≡ length b → all_fit (a ++ x) (b ++ y) ≡ (all_fit a b && all_fit x y)
+pub fit-append : (a b x y : List Kind) → length a ≡ length b → all_fit (a ++ x) (b ++ y) ≡ (all_fit a b && all_fit x y)
 fit-append [] [] x y e = refl
 fit-append [] (w ∷ b) x y e = absurd (omega arith)
 fit-append (k ∷ a) [] x y e = absurd (omega arith)

@@ -9,6 +9,7 @@ pub mod Methods
 pub mod Monotone
 pub mod Moves
 pub mod Ordering
+pub mod Padding
 pub mod PairedLocals
 pub mod PairedStacks
 pub mod Points

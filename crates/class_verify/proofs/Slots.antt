@@ -5,7 +5,8 @@ use Rattle.std.proofs.lemmas.List.{drop_more, drop_all, reverse-append, append-n
 use Rattle.class_model.specs.declared.stack_map.FrameType.{FrameType}
 use Rattle.class_verify.specs.declared.kinds.Kind.{Kind}
 use Rattle.class_verify.specs.declared.kinds.Kind.TheVariants as kinds
-use Rattle.class_verify.specs.Frames.{slots_of, all_slots, padded}
+use Rattle.class_verify.specs.Frames.{slots_of, all_slots}
+use Rattle.class_verify.specs.Padding.{padded}
 
 first_slots : (types : List FrameType) (i : ℕ) (d : FrameType) → i < length types
     → all_slots (drop i types) ≡ slots_of (get_or types i d) ++ all_slots (drop (i + 1) types)

@@ -1,5 +1,5 @@
 -- The frames that a stack map writes (JVMS 4.7.4).
-use Rattle.std.specs.Prelude.{ℕ, ◌+◌, ◌-◌, Bool, ◌||◌, ◌==◌, nat_lt, nat_le, List, [], ◌∷◌, ◌++◌, length, take, flat_map, replicate, reverse, find, Option, Some, None, if◌then◌else◌}
+use Rattle.std.specs.Prelude.{ℕ, ◌+◌, ◌-◌, Bool, ◌||◌, ◌==◌, nat_lt, nat_le, List, [], ◌∷◌, ◌++◌, length, take, flat_map, reverse, find, Option, Some, None, if◌then◌else◌}
 use Rattle.std.specs.List.{list_any}
 use Rattle.jvm_tables.specs.declared.instruction.ValueKind.{ValueKind}
 use Rattle.jvm_tables.specs.declared.instruction.ValueKind.TheVariants as values
@@ -12,6 +12,7 @@ use Rattle.class_verify.specs.declared.frames.Limits.{Limits}
 use Rattle.class_verify.specs.declared.frames.Written.{Written}
 use Rattle.class_verify.specs.declared.shape.Shape.{Shape}
 use Rattle.class_code.specs.Types.{parameter_kinds}
+use Rattle.class_verify.specs.Padding.{padded}
 
 -- a Float or a Double
 abbrev pub is_float : FrameType → Bool
@@ -40,10 +41,6 @@ own_kinds flags = if is_static flags then [] else values.Reference ∷ []
 
 abbrev pub first_kinds : ℕ → List ℕ → List ValueKind
 first_kinds flags descriptor = own_kinds flags ++ parameter_kinds descriptor
-
--- locals up to the last, the others being Top
-abbrev pub padded : ℕ → List Kind → List Kind
-padded most slots = slots ++ replicate (most - length slots) kinds.Top
 
 -- what types say of locals and stack, where these are within their limits
 unfoldable pub shape_of : Limits → List FrameType → List FrameType → Option Shape

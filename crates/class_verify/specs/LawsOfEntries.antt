@@ -7,7 +7,8 @@ use Rattle.class_model.specs.Shape.{descriptor_text}
 use Rattle.class_verify.specs.declared.frames.Limits.{Limits}
 use Rattle.class_verify.specs.declared.shape.Shape.{Shape}
 use Rattle.class_verify.specs.Bodies.{Body}
-use Rattle.class_verify.specs.Frames.{first_kinds, padded}
+use Rattle.class_verify.specs.Frames.{first_kinds}
+use Rattle.class_verify.specs.Padding.{padded}
 use Rattle.class_verify.specs.Kinds.{slots}
 use Rattle.class_verify.specs.Laws.{IsMet}
 use Rattle.class_verify.specs.Misfits.{BodyFits}

@@ -13,6 +13,7 @@ pub mod LawsOfInstructions
 pub mod LawsOfShapes
 pub mod Locals
 pub mod Misfits
+pub mod Padding
 pub mod Pairs
 pub mod Places
 pub mod Programs

@@ -1,6 +1,6 @@
 //! The code of a method with what verification asks of it.
 
-ghost use Rattle.std.specs.Prelude.{◌≡◌, ◌<◌, ◌≤◌, Some, None, Ok, drop, length, map, option_copied, option_map, is_some};
+ghost use Rattle.std.specs.Prelude.{◌≡◌, ◌<◌, ◌≤◌, Some, None, Ok, true, drop, length, map, option_copied, option_map, is_some};
 ghost use Rattle.std.specs.List.{list_all};
 ghost use Rattle.jvm_tables.specs.Decoding.{decoding};
 ghost use Rattle.jvm_tables.specs.Switches.{target};
@@ -154,20 +154,34 @@ impl Body<'_> {
         }
     }
 
-    #[tactic(auto, using(crate::proofs::Switched::case_more, crate::proofs::Switched::case_no, crate::proofs::Switched::case_all, crate::proofs::Switched::no_cases))]
-    fn cases_accept(&self, shape: &Shape, instr: &Instr) -> bool
+    /// Whether a shape fits the frame at a target, given one whose frame it fits.
+    fn accepts_beside(&self, shape: &Shape, pc: usize, accepted: usize) -> bool
         requires ready { IsReady self.now }
+        requires accepted { accepts self.now.code.now self.now.frames shape.now accepted ≡ true }
+        ensures { result ≡ accepts self.now.code.now self.now.frames shape.now pc }
+    {
+        pc == accepted || self.accepts(shape, pc)
+    }
+
+    /// Whether a shape fits the frame at each case of a switch, given that it fits the one at its default. Cases in a
+    /// row that lead to one target are compared once.
+    #[tactic(auto, using(crate::proofs::Switched::case_more, crate::proofs::Switched::case_no, crate::proofs::Switched::case_all, crate::proofs::Switched::no_cases))]
+    fn cases_accept(&self, shape: &Shape, instr: &Instr, default: usize) -> bool
+        requires ready { IsReady self.now }
+        requires default { accepts self.now.code.now self.now.frames shape.now default ≡ true }
         requires decoded { decoding instr.now.pc (drop instr.now.pc self.now.code.now) ≡ Ok instr.now }
         ensures { result ≡ list_all (accepts self.now.code.now self.now.frames shape.now) (map (λ c. c.1) (cases_at self.now.code.now instr.now)) }
     {
         if !is_switch(instr) {
             return true;
         }
+        let mut accepted = default;
         for place in 0..switch_len(self.code, instr) {
             let (_, pc) = switch_case(self.code, instr, place);
-            if !self.accepts(shape, pc as usize) {
+            if !self.accepts_beside(shape, pc as usize, accepted) {
                 return false;
             }
+            accepted = pc as usize;
         }
         true
     }
@@ -182,7 +196,8 @@ impl Body<'_> {
             Flow::Next | Flow::Return | Flow::Throw => true,
             Flow::Branch | Flow::Jump => self.accepts(shape, target(instr)),
             Flow::Switch => {
-                self.accepts(shape, target(instr)) && self.cases_accept(shape, instr)
+                let default = target(instr);
+                self.accepts(shape, default) && self.cases_accept(shape, instr, default)
             }
         }
     }

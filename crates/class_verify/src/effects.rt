@@ -79,23 +79,25 @@ fn is_read(locals: &Locals, place: usize, kind: Option<ValueKind>) -> bool
     }
 }
 
-fn store(locals: &mut Locals, place: usize, kind: Option<ValueKind>) -> bool
+fn store(locals: &mut Locals, place: usize, kind: Option<ValueKind>) -> Result<bool, AllocError>
     requires { place < 2 ^ 32 }
-    ensures { MatchBool result (with_store kind place locals.old ≡ Some locals.new) (with_store kind place locals.old ≡ None) }
+    ensures { IfOk result (λ is_there. MatchBool is_there
+        (with_store kind place locals.old ≡ Some locals.new) (with_store kind place locals.old ≡ None)) }
 {
     match kind {
         Some(kind) => locals.store(place, kind),
-        None => true,
+        None => Ok(true),
     }
 }
 
 #[tactic(auto, unfolding(crate::specs::Effects::locals_after))]
-fn change_locals(row: &OpRow, instr: &Instr, locals: &mut Locals) -> bool
-    ensures { MatchBool result (locals_after row.now instr.now locals.old ≡ Some locals.new) (locals_after row.now instr.now locals.old ≡ None) }
+fn change_locals(row: &OpRow, instr: &Instr, locals: &mut Locals) -> Result<bool, AllocError>
+    ensures { IfOk result (λ is_there. MatchBool is_there
+        (locals_after row.now instr.now locals.old ≡ Some locals.new) (locals_after row.now instr.now locals.old ≡ None)) }
 {
     let place = local_of(row, instr);
     if !is_read(locals, place, row.reads) {
-        return false;
+        return Ok(false);
     }
     store(locals, place, row.writes)
 }
@@ -112,7 +114,7 @@ pub(crate) fn leave(
 ) -> Result<bool, AllocError>
     ensures { IfOk result (λ is_there. MatchBool is_there (left class.now most row.now instr.now shape.old ≡ Some shape.new) (left class.now most row.now instr.now shape.old ≡ None)) }
 {
-    if !change_locals(row, instr, &mut shape.locals) {
+    if !change_locals(row, instr, &mut shape.locals)? {
         return Ok(false);
     }
     if !change_stack(class, row, instr, &mut shape.stack, uses)? {

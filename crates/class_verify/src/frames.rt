@@ -4,7 +4,7 @@ ghost use Rattle.std.specs.Prelude.{◌≡◌, ◌<◌, ◌^◌, None, OnOk, IfO
 ghost use Rattle.std.specs.List.{list_any};
 ghost use Rattle.class_verify.specs.Frames.{is_float, type_of, shape_of, chopped, kept, types_after, has_float, written, frames_from};
 
-use crate::locals::Locals;
+use crate::locals::{Locals, push_types};
 use crate::shape::Shape;
 use crate::stack::Stack;
 use class_model::{FrameType, StackFrame};
@@ -73,8 +73,8 @@ pub(crate) fn shape_of(
 ) -> Result<Option<Shape>, AllocError>
     ensures { IfOk result (λ found. found ≡ shape_of limits locals.now stack.now) }
 {
-    let mut kinds = Locals::new(alloc);
-    kinds.push_types(locals)?;
+    let mut kinds = Vec::new(alloc);
+    push_types(&mut kinds, locals)?;
     if kinds.len() > limits.locals {
         return Ok(None);
     }
@@ -83,10 +83,9 @@ pub(crate) fn shape_of(
     if items.len() > limits.stack {
         return Ok(None);
     }
-    kinds.pad(limits.locals)?;
     Ok(Some(Shape {
         stack: items,
-        locals: kinds,
+        locals: Locals::padded(kinds, limits.locals),
     }))
 }
 

@@ -1,8 +1,10 @@
 //! Locals.
 
-ghost use Rattle.std.specs.Prelude.{◌≡◌, ◌++◌, ◌∷◌, ◌<◌, ◌≤◌, ◌^◌, [], None, Some, length, slice_get, MatchBool, OnOk};
-ghost use Rattle.class_verify.specs.Kinds.{all_fit};
-ghost use Rattle.class_verify.specs.Frames.{slots_of, all_slots, padded};
+ghost use Rattle.std.specs.Prelude.{◌≡◌, ◌++◌, ◌∷◌, ◌<◌, ◌^◌, [], None, Some, length, slice_get, slice_set, IfOk, MatchBool, OnOk};
+ghost use Rattle.std.specs.List.{list_all};
+ghost use Rattle.class_verify.specs.Kinds.{is_top, all_fit};
+ghost use Rattle.class_verify.specs.Frames.{slots_of, all_slots};
+ghost use Rattle.class_verify.specs.Padding.{padded, kept_fit, kind_written, long_written};
 ghost use Rattle.class_verify.specs.Locals.{is_some_kind, holds, without_long_before, with_kind, with_long, stored};
 
 use crate::kinds::{Kind, all_fit};
@@ -12,10 +14,11 @@ use sqlite_items::at;
 use std::alloc::{AllocError, Global};
 use std::marker::Model;
 
-/// The kinds of locals, from 0 on.
+/// The kinds of locals, from 0 on. Only the first are kept: those behind them are Top.
 #[derive(Debug, Drop)]
 pub struct Locals {
     slots: Vec<Kind>,
+    most: usize,
 }
 
 impl Model for Locals {
@@ -23,12 +26,13 @@ impl Model for Locals {
     ghost use Rattle.std.specs.Coded.{coded_list};
     ghost use Rattle.class_verify.specs.declared.kinds.Kind.{Kind};
     ghost use Rattle.class_verify.specs.contracts.kinds.Kind as kind_type;
+    ghost use Rattle.class_verify.specs.Padding.{padded};
 
     ghost Value = { List Kind };
 
     ghost coded = { coded_list kind_type.the_row.coded };
 
-    ghost view = { λ s. s.slots.items };
+    ghost view = { λ s. padded s.most s.slots.items };
 }
 
 fn is_at(locals: &[Kind], place: usize, wanted: Kind) -> bool
@@ -40,82 +44,154 @@ fn is_at(locals: &[Kind], place: usize, wanted: Kind) -> bool
     }
 }
 
+fn all_top(kinds: &[Kind]) -> bool
+    ensures { result ≡ list_all is_top kinds.now }
+{
+    kinds.iter().all(|kind| kind.is(Kind::Top))
+}
+
+/// Adds the slots of types.
+#[tactic(auto, using(crate::proofs::Slots::add_end))]
+pub(crate) fn push_types(slots: &mut Vec<Kind>, types: &[FrameType]) -> Result<(), AllocError>
+    ensures { OnOk result (slots.new.items ≡ slots.old.items ++ all_slots types.now) }
+{
+    for t in types {
+        push_type(slots, *t)?;
+    }
+    Ok(())
+}
+
+fn push(slots: &mut Vec<Kind>, kind: Kind) -> Result<(), AllocError>
+    ensures { OnOk result (slots.new.items ≡ slots.old.items ++ kind ∷ []) }
+{
+    slots.push(kind)?;
+    Ok(())
+}
+
+fn push_type(slots: &mut Vec<Kind>, t: FrameType) -> Result<(), AllocError>
+    ensures { OnOk result (slots.new.items ≡ slots.old.items ++ slots_of t) }
+{
+    if t.tag == 0 {
+        return push(slots, Kind::Top);
+    }
+    if t.tag == 1 {
+        return push(slots, Kind::Int);
+    }
+    if t.tag == 4 {
+        push(slots, Kind::Long)?;
+        return push(slots, Kind::Top);
+    }
+    push(slots, Kind::Reference)
+}
+
+/// Adds Top up to a number of slots.
+#[tactic(auto, using(crate::proofs::Slots::pad_end))]
+fn pad(slots: &mut Vec<Kind>, count: usize) -> Result<(), AllocError>
+    ensures { OnOk result (slots.new.items ≡ padded count slots.old.items) }
+{
+    while slots.len() < count {
+        push(slots, Kind::Top)?;
+    }
+    Ok(())
+}
+
+/// Ends a long whose second slot is at a place.
+fn end_long_before(slots: &mut Vec<Kind>, place: usize)
+    requires { place < length slots.old.items }
+    ensures { slots.new.items ≡ without_long_before place slots.old.items }
+{
+    if place == 0 {
+        return;
+    }
+    let before = place - 1;
+    if is_at(slots.as_slice(), before, Kind::Long) {
+        slots[before] = Kind::Top;
+    }
+}
+
+fn put(slots: &mut Vec<Kind>, place: usize, kind: Kind)
+    requires { place < length slots.old.items }
+    ensures { slots.new.items ≡ slice_set slots.old.items place kind }
+{
+    slots[place] = kind;
+}
+
+/// Writes a slot, behind which there may be more than are kept.
+#[tactic(auto, unfolding(crate::specs::Padding::kind_written), using(crate::proofs::Padding::within_written_out, crate::proofs::Padding::within_padded))]
+fn write_kind(slots: &mut Vec<Kind>, place: usize, kind: Kind) -> Result<(), AllocError>
+    requires { place < 2 ^ 32 }
+    ensures { OnOk result (slots.new.items ≡ kind_written kind place slots.old.items) }
+{
+    pad(slots, place + 1)?;
+    end_long_before(slots, place);
+    put(slots, place, kind);
+    Ok(())
+}
+
+/// Writes a long, behind which there may be more than are kept.
+#[tactic(auto, unfolding(crate::specs::Padding::long_written), using(crate::proofs::Padding::within_long, crate::proofs::Padding::within_written_out, crate::proofs::Padding::within_padded))]
+fn write_long(slots: &mut Vec<Kind>, place: usize) -> Result<(), AllocError>
+    requires { place < 2 ^ 32 }
+    ensures { OnOk result (slots.new.items ≡ long_written place slots.old.items) }
+{
+    pad(slots, place + 2)?;
+    end_long_before(slots, place);
+    put(slots, place, Kind::Long);
+    put(slots, place + 1, Kind::Top);
+    Ok(())
+}
+
+/// Whether the kept part of locals fits that of others.
+#[tactic(auto, using(crate::proofs::Padding::common_part))]
+fn kept_fit(slots: &[Kind], others: &[Kind]) -> bool
+    ensures { result ≡ kept_fit slots.now others.now }
+{
+    let common = slots.len().min(others.len());
+    all_fit(&slots[..common], &others[..common]) && all_top(&others[common..])
+}
+
 impl Locals {
     pub fn new(alloc: Global) -> Locals
         ensures { result ≡ [] }
     {
-        Locals {
-            slots: Vec::new(alloc),
-        }
+        Locals::padded(Vec::new(alloc), 0)
     }
 
+    /// So many locals, the first of which have these kinds, and the others are Top.
+    pub(crate) fn padded(slots: Vec<Kind>, most: usize) -> Locals
+        ensures { result ≡ padded most slots.items }
+    {
+        Locals { slots, most }
+    }
+
+    #[tactic(auto, using(crate::proofs::Padding::length_padded))]
     pub fn len(&self) -> usize
         ensures { result ≡ length self.now }
     {
-        self.slots.len()
-    }
-
-    pub(crate) fn push(&mut self, kind: Kind) -> Result<(), AllocError>
-        ensures { OnOk result (self.new ≡ self.old ++ kind ∷ []) }
-    {
-        self.slots.push(kind)?;
-        Ok(())
-    }
-
-    /// Adds the slots of types.
-    #[tactic(auto, using(crate::proofs::Slots::add_end))]
-    pub(crate) fn push_types(&mut self, types: &[FrameType]) -> Result<(), AllocError>
-        ensures { OnOk result (self.new ≡ self.old ++ all_slots types.now) }
-    {
-        for t in types {
-            self.push_type(*t)?;
-        }
-        Ok(())
-    }
-
-    fn push_type(&mut self, t: FrameType) -> Result<(), AllocError>
-        ensures { OnOk result (self.new ≡ self.old ++ slots_of t) }
-    {
-        if t.tag == 0 {
-            return self.push(Kind::Top);
-        }
-        if t.tag == 1 {
-            return self.push(Kind::Int);
-        }
-        if t.tag == 4 {
-            self.push(Kind::Long)?;
-            return self.push(Kind::Top);
-        }
-        self.push(Kind::Reference)
-    }
-
-    /// Adds Top up to a number of locals.
-    #[tactic(auto, using(crate::proofs::Slots::pad_end))]
-    pub(crate) fn pad(&mut self, most: usize) -> Result<(), AllocError>
-        requires { length self.old ≤ most }
-        ensures { OnOk result (self.new ≡ padded most self.old) }
-    {
-        while self.len() < most {
-            self.push(Kind::Top)?;
-        }
-        Ok(())
+        self.slots.len().max(self.most)
     }
 
     /// Makes them equal to others.
     pub(crate) fn copy_from(&mut self, other: &Locals) -> Result<(), AllocError>
         ensures { OnOk result (self.new ≡ other.now) }
     {
+        self.most = other.most;
         self.slots.clear();
         self.slots.extend_from_slice(other.slots.as_slice())
     }
 
+    #[tactic(auto, using(crate::proofs::Fitting::fit_lengths, crate::proofs::Padding::padded_fit))]
     pub(crate) fn fits(&self, wanted: &Locals) -> bool
         ensures { result ≡ all_fit self.now wanted.now }
     {
-        all_fit(self.slots.as_slice(), wanted.slots.as_slice())
+        if self.len() != wanted.len() {
+            return false;
+        }
+        kept_fit(self.slots.as_slice(), wanted.slots.as_slice())
     }
 
     /// Whether a value of a kind begins at a local.
+    #[tactic(auto, using(crate::proofs::Padding::is_int_padded, crate::proofs::Padding::is_long_padded, crate::proofs::Padding::is_reference_padded))]
     pub(crate) fn holds(&self, place: usize, kind: ValueKind) -> bool
         ensures { result ≡ holds kind place self.now }
     {
@@ -127,48 +203,37 @@ impl Locals {
         }
     }
 
-    /// Ends a long whose second slot is at a place.
-    fn end_long_before(&mut self, place: usize)
-        requires { place < length self.old }
-        ensures { self.new ≡ without_long_before place self.old }
-    {
-        if place == 0 {
-            return;
-        }
-        let before = place - 1;
-        if is_at(self.slots.as_slice(), before, Kind::Long) {
-            self.slots[before] = Kind::Top;
-        }
-    }
-
-    fn store_kind(&mut self, place: usize, kind: Kind) -> bool
-        ensures { MatchBool result (with_kind kind place self.old ≡ Some self.new) (with_kind kind place self.old ≡ None) }
-    {
-        if place >= self.slots.len() {
-            return false;
-        }
-        self.end_long_before(place);
-        self.slots[place] = kind;
-        true
-    }
-
-    fn store_long(&mut self, place: usize) -> bool
+    #[tactic(auto, using(crate::proofs::Padding::kind_stored))]
+    fn store_kind(&mut self, place: usize, kind: Kind) -> Result<bool, AllocError>
         requires { place < 2 ^ 32 }
-        ensures { MatchBool result (with_long place self.old ≡ Some self.new) (with_long place self.old ≡ None) }
+        ensures { IfOk result (λ is_there. MatchBool is_there
+            (with_kind kind place self.old ≡ Some self.new) (with_kind kind place self.old ≡ None)) }
     {
-        if place + 1 >= self.slots.len() {
-            return false;
+        if place >= self.len() {
+            return Ok(false);
         }
-        self.end_long_before(place);
-        self.slots[place] = Kind::Long;
-        self.slots[place + 1] = Kind::Top;
-        true
+        write_kind(&mut self.slots, place, kind)?;
+        Ok(true)
+    }
+
+    #[tactic(auto, using(crate::proofs::Padding::long_stored))]
+    fn store_long(&mut self, place: usize) -> Result<bool, AllocError>
+        requires { place < 2 ^ 32 }
+        ensures { IfOk result (λ is_there. MatchBool is_there
+            (with_long place self.old ≡ Some self.new) (with_long place self.old ≡ None)) }
+    {
+        if place + 1 >= self.len() {
+            return Ok(false);
+        }
+        write_long(&mut self.slots, place)?;
+        Ok(true)
     }
 
     /// Stores a value of a kind, if there is room for it at a local.
-    pub(crate) fn store(&mut self, place: usize, kind: ValueKind) -> bool
+    pub(crate) fn store(&mut self, place: usize, kind: ValueKind) -> Result<bool, AllocError>
         requires { place < 2 ^ 32 }
-        ensures { MatchBool result (stored kind place self.old ≡ Some self.new) (stored kind place self.old ≡ None) }
+        ensures { IfOk result (λ is_there. MatchBool is_there
+            (stored kind place self.old ≡ Some self.new) (stored kind place self.old ≡ None)) }
     {
         match kind {
             ValueKind::Int => self.store_kind(place, Kind::Int),
