@@ -18,6 +18,7 @@ pub mod Sizes
 pub mod Slots
 pub mod Stacking
 pub mod Strays
+pub mod Sweeping
 pub mod Switched
 pub mod Tables
 pub mod Verifying

@@ -1,16 +1,14 @@
 -- Locals of which only the first are kept.
-use Rattle.std.proofs.Common.{◌≡◌, ℕ, zero, suc, ◌+◌, ◌-◌, ◌<◌, ◌≤◌, min, max, Bool, true, false, ◌&&◌, cond, List, [], ◌∷◌, ◌++◌, length, take, drop, get_or, set, Option, Some, None, refl, sym, ap, ◌∙◌, inl, inr, arith, append_assoc, length-append}
+use Rattle.std.proofs.Common.{◌≡◌, ℕ, zero, suc, ◌+◌, ◌-◌, ◌<◌, ◌≤◌, min, max, Bool, true, false, ◌&&◌, cond, List, [], ◌∷◌, ◌++◌, length, take, drop, set, Some, None, refl, sym, ap, ◌∙◌, arith, append_assoc, length-append}
 use Rattle.std.specs.Prelude.{replicate, slice_get}
 use Rattle.std.specs.List.{list_all}
 use Rattle.std.proofs.Math.ListN.{length-set}
-use Rattle.std.proofs.lemmas.Bool.{cases_lt, lt-ltb, le-ltb}
-use Rattle.std.proofs.lemmas.List.{append-nil, drop_all, length-replicate, length-take-le, length-drop, take-append-drop, set-append_left, replicate-append-replicate, get_or_append_left, get_or-append_right, get_or-replicate}
-use Rattle.std.proofs.lemmas.Option.{slice_get-get_or, slice_get_past}
-use Rattle.jvm_tables.specs.declared.instruction.ValueKind.{ValueKind}
+use Rattle.std.proofs.lemmas.Bool.{lt-ltb}
+use Rattle.std.proofs.lemmas.List.{length-replicate, length-take-le, length-drop, take-append-drop, set-append_left, replicate-append-replicate}
 use Rattle.class_verify.specs.declared.kinds.Kind.{Kind}
 use Rattle.class_verify.specs.declared.kinds.Kind.TheVariants as kinds
-use Rattle.class_verify.specs.Kinds.{is_kind, is_top, is_long, fits, all_fit}
-use Rattle.class_verify.specs.Locals.{is_some_kind, holds, without_long_before, with_kind, with_long}
+use Rattle.class_verify.specs.Kinds.{is_kind, is_top, fits, all_fit}
+use Rattle.class_verify.specs.Locals.{is_some_kind, without_long_before, with_kind, with_long}
 use Rattle.class_verify.specs.Padding.{padded, kept_fit, kind_written, long_written}
 use Rattle.class_verify.proofs.Fitting.{fit-append}
 

@@ -21,6 +21,7 @@ pub mod Ready
 pub mod Shapes
 pub mod Stacks
 pub mod Stops
+pub mod Sweeps
 pub mod Targets
 pub mod Verified
 pub mod Walks

@@ -1,5 +1,5 @@
 -- What stands where control goes from an instruction (JVMS 6.5).
-use Rattle.std.specs.Prelude.{ℕ, Bool, true, false, not, ◌&&◌, ◌||◌, List, [], ◌∷◌, Option, Some, None}
+use Rattle.std.specs.Prelude.{ℕ, Bool, false, not, ◌&&◌, ◌||◌, List, [], ◌∷◌, Option, Some, None}
 use Rattle.class_model.specs.declared.attribute_forms.Handler.{Handler}
 use Rattle.class_verify.specs.declared.frames.Written.{Written}
 use Rattle.class_verify.specs.declared.kinds.Kind.{Kind}

@@ -9,14 +9,16 @@ ghost use Rattle.class_verify.specs.Frames.{frame_at};
 ghost use Rattle.class_verify.specs.Misfits.{is_float_frame, ends_well, is_result};
 ghost use Rattle.class_verify.specs.Places.{begins};
 ghost use Rattle.class_verify.specs.Ready.{IsReady, plain};
-ghost use Rattle.class_code.specs.Control.{falls, covers, targets_by};
-ghost use Rattle.class_verify.specs.Targets.{accepts, is_accepted, fits_written, catches, is_caught, catches_in};
+ghost use Rattle.class_code.specs.Control.{falls, targets_by};
+ghost use Rattle.class_verify.specs.Sweeps.{is_kept};
+ghost use Rattle.class_verify.specs.Targets.{accepts, is_accepted, fits_written, is_caught, catches_in};
 
 use crate::frames::{Limits, Written};
 use crate::locals::Locals;
 use crate::places::place_behind;
 use crate::shape::Shape;
-use class_code::{covers, target};
+use crate::sweep::Sweep;
+use class_code::target;
 use class_model::{Class, Handler};
 use jvm_tables::{Flow, Instr, OpRow, Operands, ValueKind, is_switch, switch_case, switch_len};
 use sqlite_items::Items;
@@ -46,6 +48,7 @@ pub(crate) struct Spot {
     pub pc: usize,
     pub is_reached: bool,
     pub shape: Shape,
+    pub sweep: Sweep,
 }
 
 fn is_result(result_kind: Option<ValueKind>, takes: Operands) -> bool
@@ -202,27 +205,26 @@ impl Body<'_> {
         }
     }
 
-    fn catches(&self, pc: usize, locals: &Locals, handler: &Handler) -> bool
+    /// Whether the frame at a handler accepts the locals.
+    pub(crate) fn is_caught(&self, locals: &Locals, handler: usize) -> bool
         requires { IsReady self.now }
-        ensures { result ≡ catches self.now.code.now self.now.frames pc locals.now handler.now }
+        ensures { result ≡ is_caught locals.now (frame_at self.now.code.now self.now.frames handler) }
     {
-        if !covers(pc, handler) {
-            return true;
-        }
-        match self.frame(usize::from(handler.handler)) {
+        match self.frame(handler) {
             Some(frame) => catches_in(locals, &frame.shape),
             None => false,
         }
     }
 
-    /// Whether each handler whose range has the pc accepts the locals.
-    pub(crate) fn all_catch(&self, pc: usize, locals: &Locals) -> bool
+    /// Whether a range ends by a pc, or its handler accepts the locals.
+    pub(crate) fn is_kept(&self, pc: usize, locals: &Locals, range: &Handler) -> bool
         requires { IsReady self.now }
-        ensures { result ≡ list_all (catches self.now.code.now self.now.frames pc locals.now) self.now.table.now }
+        ensures { result ≡ is_kept self.now.code.now self.now.frames pc locals.now range.now }
     {
-        self.table
-            .iter()
-            .all(|handler| self.catches(pc, locals, handler))
+        if pc >= usize::from(range.end) {
+            return true;
+        }
+        self.is_caught(locals, usize::from(range.handler))
     }
 
     /// Whether control that goes on finds an instruction, and control that returns has the result.

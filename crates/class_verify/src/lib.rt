@@ -15,6 +15,7 @@ mod places;
 mod program_ok;
 mod shape;
 mod stack;
+mod sweep;
 mod verification;
 mod walk;
 

@@ -12,6 +12,7 @@ ghost use Rattle.class_verify.specs.Misfits.{BodyFits, IsFirstMisfit};
 ghost use Rattle.class_verify.specs.Bodies.{first_point};
 ghost use Rattle.class_verify.specs.Walks.{IsWalked, IsLeastStray, earlier};
 ghost use Rattle.class_verify.specs.Ready.{IsReady, plain, seen};
+ghost use Rattle.class_verify.specs.Sweeps.{IsFresh};
 ghost use Rattle.class_code.specs.Types.{result_kind};
 ghost use Rattle.class_verify.specs.Verified.{fault_of, body_of, CodeFits, MethodFits, Fits, IsMethodMisfit, IsNamed, IsRefusal, IsMisfitIn, IsMisfitOf};
 
@@ -23,6 +24,7 @@ use crate::locals::Locals;
 use crate::places::{framed, marks_of};
 use crate::shape::Shape;
 use crate::stack::Stack;
+use crate::sweep::Sweep;
 use crate::walk::{Buffers, least_stray, walk};
 use class_code::{CodeView, SiteKinds, Use, code_of, has_float, read_kinds, stack_map};
 use class_index::Index;
@@ -122,7 +124,8 @@ fn body<'a>(
 
 /// The shape with which a walk begins.
 fn first_spot(alloc: Global, body: &Body<'_>) -> Result<Spot, AllocError>
-    ensures { IfOk result (λ spot. seen spot ≡ first_point (plain body.now)) }
+    ensures first { IfOk result (λ spot. seen spot ≡ first_point (plain body.now)) }
+    ensures fresh { IfOk result (λ spot. IsFresh body.now.table.now spot.sweep) }
 {
     let mut shape = Shape {
         stack: Stack::new(alloc),
@@ -139,6 +142,7 @@ fn first_spot(alloc: Global, body: &Body<'_>) -> Result<Spot, AllocError>
         pc: 0,
         is_reached,
         shape,
+        sweep: Sweep::new(alloc, body.table)?,
     })
 }
 
@@ -162,7 +166,7 @@ fn earlier(found: Option<(u32, Cause)>, stray: Option<u32>) -> Option<(u32, Caus
 }
 
 /// The first misfit of code.
-#[tactic(auto, using(crate::proofs::Firsts::earlier_is_first))]
+#[tactic(auto, using(crate::proofs::Firsts::earlier_is_first, crate::proofs::Sweeping::fresh_met))]
 fn first_misfit(
     alloc: Global,
     body: &Body<'_>,

@@ -11,6 +11,7 @@ ghost use Rattle.class_verify.specs.Misfits.{named_cause, cause_of, cause_at, is
 ghost use Rattle.class_verify.specs.Places.{begins};
 ghost use Rattle.class_verify.specs.Ready.{IsReady, plain, seen};
 ghost use Rattle.class_verify.specs.Stops.{StopsBy};
+ghost use Rattle.class_verify.specs.Sweeps.{IsMet};
 ghost use Rattle.class_verify.specs.declared.cause.Stop.TheVariants.{Misfit};
 ghost use Rattle.class_code.specs.Control.{falls};
 ghost use Rattle.class_verify.specs.Walks.{Moves, IsWalked, IsLeastStray, least_of};
@@ -22,6 +23,7 @@ use crate::floats::uses_float;
 use crate::frames::Written;
 use crate::places::place_behind;
 use crate::shape::Shape;
+use crate::sweep::Sweep;
 use class_code::{SiteKinds, Use};
 use jvm_tables::{CodeFault, Flow, Instr, OpRow, decode, op_row};
 use std::alloc::AllocError;
@@ -88,8 +90,10 @@ fn check_names(
 /// Makes what arrives the shape of a frame, into which it has to fit.
 fn join(spot: &mut Spot, wanted: &Shape) -> Result<bool, AllocError>
     ensures place { spot.new.pc ≡ spot.old.pc }
+    ensures sweep { spot.new.sweep ≡ record spot.old.sweep { is_settled = false } }
     ensures shape { IfOk result (λ is_there. MatchBool is_there (joined_to (seen spot.old).arrives wanted.now ≡ Some spot.new.shape) (joined_to (seen spot.old).arrives wanted.now ≡ None)) }
 {
+    spot.sweep.is_settled = false;
     if spot.is_reached && !spot.shape.fits(wanted) {
         return Ok(false);
     }
@@ -98,9 +102,11 @@ fn join(spot: &mut Spot, wanted: &Shape) -> Result<bool, AllocError>
 }
 
 /// Makes what arrives the shape before the instruction, if it has one.
-#[tactic(auto, unfolding(crate::specs::Bodies::shape_before))]
+#[tactic(auto, using(crate::proofs::Sweeping::unsettled), unfolding(crate::specs::Bodies::shape_before))]
 fn enter(body: &Body<'_>, spot: &mut Spot) -> Result<bool, AllocError>
     requires ready { IsReady body.now }
+    requires met { IsMet (plain body.now) spot.old.sweep spot.old.pc spot.old.shape.locals }
+    ensures met { IfOk result (λ is_there. OnTrue is_there (IsMet (plain body.now) spot.new.sweep spot.new.pc spot.new.shape.locals)) }
     ensures place { spot.new.pc ≡ spot.old.pc }
     ensures shape { IfOk result (λ is_there. MatchBool is_there (shape_before (plain body.now) (seen spot.old) ≡ Some spot.new.shape) (shape_before (plain body.now) (seen spot.old) ≡ None)) }
 {
@@ -122,21 +128,25 @@ fn check_shape(
     instr: &Instr,
     row: &OpRow,
     shape: &mut Shape,
+    sweep: &mut Sweep,
     uses: &mut Use,
 ) -> Result<bool, AllocError>
     requires ready { IsReady body.now }
+    requires met { IsMet (plain body.now) sweep.old instr.now.pc shape.old.locals }
     requires decoded { decoding instr.now.pc (drop instr.now.pc body.now.code.now) ≡ Ok instr.now }
     requires within { instr.now.pc < length body.now.code.now }
-    ensures { IfOk result (λ is_good. MatchBool is_good
+    ensures met { IfOk result (λ is_good. OnTrue is_good (IsMet (plain body.now) sweep.new instr.now.pc shape.new.locals)) }
+    ensures shape { IfOk result (λ is_good. MatchBool is_good
         ((is_sound (plain body.now) row.now instr.now (Some shape.old) ≡ true) × (left body.now.class.now body.now.limits.stack row.now instr.now shape.old ≡ Some shape.new))
         (is_sound (plain body.now) row.now instr.now (Some shape.old) ≡ false)) }
 {
-    if !body.all_catch(instr.pc as usize, &shape.locals) {
+    if !sweep.all_catch(body, instr.pc as usize, &shape.locals)? {
         return Ok(false);
     }
     if !leave(body.class, body.limits.stack, row, instr, shape, uses)? {
         return Ok(false);
     }
+    sweep.follow(row.writes);
     Ok(body.targets_accept(shape, row.flow, instr) && body.ends_well(instr, row))
 }
 
@@ -153,6 +163,8 @@ fn check(
     requires decoded { decoding instr.now.pc (drop instr.now.pc body.now.code.now) ≡ Ok instr.now }
     requires within { instr.now.pc < length body.now.code.now }
     requires place { spot.old.pc ≡ instr.now.pc }
+    requires met { IsMet (plain body.now) spot.old.sweep spot.old.pc spot.old.shape.locals }
+    ensures met { OnOk result (IsMet (plain body.now) spot.new.sweep spot.new.pc spot.new.shape.locals) }
     ensures place { spot.new.pc ≡ spot.old.pc }
     ensures cause { MatchResult result (λ _. cause_of (plain body.now) (seen spot.old) instr.now row.now ≡ None)
         (λ stop. StopsBy (cause_of (plain body.now) (seen spot.old) instr.now row.now) stop) }
@@ -162,7 +174,8 @@ fn check(
     if !enter(body, spot)? {
         return Err(Stop::Misfit(Cause::BadFrame));
     }
-    if !check_shape(body, instr, row, &mut spot.shape, &mut buffers.uses)? {
+    let uses = &mut buffers.uses;
+    if !check_shape(body, instr, row, &mut spot.shape, &mut spot.sweep, uses)? {
         return Err(Stop::Misfit(Cause::BadFrame));
     }
     Ok(())
@@ -179,6 +192,8 @@ fn falls(flow: Flow) -> bool
 fn step(body: &Body<'_>, spot: &mut Spot, buffers: &mut Buffers) -> Result<bool, Stop>
     requires ready { IsReady body.now }
     requires within { spot.old.pc < length body.now.code.now }
+    requires met { IsMet (plain body.now) spot.old.sweep spot.old.pc spot.old.shape.locals }
+    ensures met { IfOk result (λ goes_on. OnTrue goes_on (IsMet (plain body.now) spot.new.sweep spot.new.pc spot.new.shape.locals)) }
     ensures cause { MatchResult result (λ _. cause_at (plain body.now) (seen spot.old) ≡ None)
         (λ stop. StopsBy (cause_at (plain body.now) (seen spot.old)) stop) }
     ensures moves { IfOk result (λ goes_on. Moves (plain body.now) goes_on (seen spot.old) (seen spot.new)) }
@@ -218,6 +233,7 @@ pub(crate) fn walk(
 ) -> Result<Option<(u32, Cause)>, AllocError>
     requires ready { IsReady body.now }
     requires first { seen spot.old ≡ first_point (plain body.now) }
+    requires met { IsMet (plain body.now) spot.old.sweep spot.old.pc spot.old.shape.locals }
     ensures { IfOk result (λ found. IsWalked (plain body.now) found) }
 {
     'points: loop {

@@ -5,6 +5,7 @@ use Rattle.class_verify.specs.Bodies.{Point}
 use Rattle.class_verify.specs.Misfits.{cause_at}
 use Rattle.class_verify.specs.Ready.{plain, seen}
 use Rattle.class_verify.specs.Stops.{StopsBy}
+use Rattle.class_verify.specs.Sweeps.{IsMet}
 use Rattle.class_verify.specs.Walks.{Moves, Stands, IsFirstFound}
 use Rattle.class_verify.proofs.Walking.{starts, goes_on, ends, finds}
 use Rattle.class_verify.proofs.walk.walk.Goals as goal
@@ -16,16 +17,19 @@ points-init c =
     record {
       stands = subst P (sym c.requires.first) (starts (plain c.args.body.now));
       inside = omega (arith, first, c.requires.ready.some);
+      met = c.requires.met;
     }
 
 pub points-preserved : goal.points-preserved
 points-preserved c =
     let M : Bool → Type 0 = λ b. Moves (plain c.args.body.now) b (seen c.points.spot) (seen c.step.new.spot) in
+    let N : Bool → Type 0 = λ b. OnTrue b (IsMet (plain c.args.body.now) c.step.new.spot.sweep c.step.new.spot.pc c.step.new.spot.shape.locals) in
     let W : Bool → Type 0 = λ b. OnTrue b (c.step.new.spot.pc < length c.args.body.now.code.now) in
     record {
       stands = goes_on (plain c.args.body.now) (seen c.points.spot) (seen c.step.new.spot) c.points.invariant.stands c.in-Ok-true.ensures.cause
           (subst M c.in-Ok-true.field-0-test c.in-Ok-true.ensures.moves);
       inside = subst W c.in-Ok-true.field-0-test c.in-Ok-true.ensures.within;
+      met = subst N c.in-Ok-true.field-0-test c.in-Ok-true.ensures.met;
     }
 
 pub returns-in-Ok-false : goal.returns-in-Ok-false

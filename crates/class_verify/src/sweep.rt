@@ -1,0 +1,138 @@
+//! The ranges of an exception table, met in the order of their starts as a walk goes on. A range is looked at where it
+//! begins, and again where a local was changed, and not at each instruction.
+
+ghost use Rattle.std.specs.Prelude.{◌≡◌, ◌+◌, Some, false, IfOk, MatchBool, is_none, slice_get};
+ghost use Rattle.std.specs.Bool.{OnTrue};
+ghost use Rattle.std.specs.List.{list_all};
+ghost use Rattle.class_verify.specs.Ready.{IsReady, plain};
+ghost use Rattle.class_verify.specs.Sweeps.{begins_by, is_kept, IsMet, IsSettled, IsFresh};
+ghost use Rattle.class_verify.specs.Targets.{catches};
+
+use crate::body::Body;
+use crate::locals::Locals;
+use class_model::Handler;
+use jvm_tables::ValueKind;
+use sqlite_items::at;
+use std::alloc::{AllocError, Global};
+
+#[derive(Drop)]
+pub(crate) struct Sweep {
+    /// The ranges, by their starts.
+    pub ranges: Vec<Handler>,
+    /// How many of them began.
+    pub begun: usize,
+    /// Those that began and may not have ended.
+    pub going: Vec<Handler>,
+    /// Whether the locals are those that the handlers of all that are going on accept.
+    pub is_settled: bool,
+}
+
+impl Sweep {
+    pub fn new(alloc: Global, table: &[Handler]) -> Result<Sweep, AllocError>
+        ensures { IfOk result (λ sweep. IsFresh table.now sweep) }
+    {
+        let mut ranges = Vec::from_slice(alloc, table)?;
+        ranges.sort_by_key(|range| range.start)?;
+        Ok(Sweep {
+            ranges,
+            begun: 0,
+            going: Vec::new(alloc),
+            is_settled: true,
+        })
+    }
+
+    /// The next range, if it begins by a pc.
+    fn next_by(&self, pc: usize) -> Option<Handler>
+        ensures { result ≡ begins_by pc (slice_get self.now.ranges.items self.now.begun) }
+    {
+        match at(self.ranges.as_slice(), self.begun) {
+            Some(range) => {
+                if usize::from(range.start) <= pc {
+                    Some(*range)
+                } else {
+                    None
+                }
+            }
+            None => None,
+        }
+    }
+
+    /// Whether the handlers of all that are going on accept the locals.
+    fn all_keep(&self, body: &Body<'_>, pc: usize, locals: &Locals) -> bool
+        requires { IsReady body.now }
+        ensures { result ≡ list_all (is_kept body.now.code.now body.now.frames pc locals.now) self.now.going.items }
+    {
+        self.going
+            .iter()
+            .all(|range| body.is_kept(pc, locals, range))
+    }
+
+    /// Goes on to a range that begins, if its handler accepts the locals.
+    #[tactic(auto, using(crate::proofs::Sweeping::passed_over))]
+    fn admit(
+        &mut self,
+        body: &Body<'_>,
+        pc: usize,
+        locals: &Locals,
+        range: Handler,
+    ) -> Result<bool, AllocError>
+        requires ready { IsReady body.now }
+        requires next { begins_by pc (slice_get self.old.ranges.items self.old.begun) ≡ Some range }
+        requires met { IsSettled (plain body.now) self.old pc locals.now }
+        ensures met { IfOk result (λ is_caught. MatchBool is_caught (IsSettled (plain body.now) self.new pc locals.now)
+            (list_all (catches body.now.code.now body.now.frames pc locals.now) body.now.table.now ≡ false)) }
+        ensures next { IfOk result (λ is_caught. OnTrue is_caught (self.new.begun ≡ self.old.begun + 1)) }
+        ensures same { self.new.ranges ≡ self.old.ranges }
+    {
+        self.begun += 1;
+        if pc >= usize::from(range.end) {
+            return Ok(true);
+        }
+        if !body.is_caught(locals, usize::from(range.handler)) {
+            return Ok(false);
+        }
+        self.going.push(range)?;
+        Ok(true)
+    }
+
+    /// Goes on to the ranges that begin by a pc, if their handlers accept the locals.
+    fn begin(&mut self, body: &Body<'_>, pc: usize, locals: &Locals) -> Result<bool, AllocError>
+        requires ready { IsReady body.now }
+        requires met { IsSettled (plain body.now) self.old pc locals.now }
+        ensures caught { IfOk result (λ is_caught. is_caught ≡ list_all (catches body.now.code.now body.now.frames pc locals.now) body.now.table.now) }
+        ensures met { IfOk result (λ is_caught. OnTrue is_caught (IsSettled (plain body.now) self.new pc locals.now)) }
+    {
+        while let Some(range) = self.next_by(pc) {
+            if !self.admit(body, pc, locals, range)? {
+                return Ok(false);
+            }
+        }
+        Ok(true)
+    }
+
+    /// Whether each handler whose range has the pc accepts the locals.
+    #[tactic(auto, using(crate::proofs::Sweeping::settled, crate::proofs::Sweeping::settled_still))]
+    pub fn all_catch(
+        &mut self,
+        body: &Body<'_>,
+        pc: usize,
+        locals: &Locals,
+    ) -> Result<bool, AllocError>
+        requires ready { IsReady body.now }
+        requires met { IsMet (plain body.now) self.old pc locals.now }
+        ensures caught { IfOk result (λ is_caught. is_caught ≡ list_all (catches body.now.code.now body.now.frames pc locals.now) body.now.table.now) }
+        ensures met { IfOk result (λ is_caught. OnTrue is_caught (IsSettled (plain body.now) self.new pc locals.now)) }
+    {
+        if !self.is_settled && !self.all_keep(body, pc, locals) {
+            return Ok(false);
+        }
+        self.begin(body, pc, locals)
+    }
+
+    /// Says whether the locals stay as they were found, behind an instruction that may write one.
+    pub fn follow(&mut self, writes: Option<ValueKind>)
+        ensures { self.new ≡ record self.old { is_settled = is_none writes } }
+    {
+        self.is_settled = writes.is_none();
+    }
+}
