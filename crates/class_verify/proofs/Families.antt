@@ -1,28 +1,24 @@
 -- Code that has a family of shapes fits.
-use Rattle.std.proofs.Common.{◌≡◌, ℕ, zero, suc, ◌+◌, ◌-◌, ◌<◌, ◌≤◌, Bool, true, false, not, ◌&&◌, ◌||◌, ◌==◌, cond, List, [], ◌∷◌, ◌++◌, length, Option, Some, None, Ok, Err, Result, refl, sym, ap, ◌∙◌, subst, inl, inr, arith}
+use Rattle.std.proofs.Common.{◌≡◌, ℕ, zero, suc, ◌+◌, ◌-◌, ◌<◌, ◌≤◌, Bool, true, false, not, ◌&&◌, ◌||◌, ◌==◌, cond, List, [], ◌∷◌, length, Option, Some, None, refl, sym, ap, ◌∙◌, subst, inl, inr, arith}
 use Rattle.std.specs.Prelude.{Contains, is_none, map, filter, option_and_then}
 use Rattle.std.specs.List.{list_all}
 use Rattle.std.proofs.lemmas.Bool.{eq-eqb, cases_Bool}
-use Rattle.std.proofs.lemmas.List.Elements.{Contains-push, Contains-append_left, Contains-append_right, Contains-push_cases}
-use Rattle.jvm_tables.specs.declared.code.Instr.{Instr}
-use Rattle.jvm_tables.specs.declared.instruction.OpRow.{OpRow}
+use Rattle.std.proofs.lemmas.List.Elements.{Contains-push, Contains-append_left, Contains-append_right}
 use Rattle.jvm_tables.proofs.Rows.{both}
 use Rattle.class_model.specs.declared.attribute_forms.Handler.{Handler}
 use Rattle.class_verify.specs.declared.cause.Cause.{Cause}
 use Rattle.class_verify.specs.declared.cause.Cause.TheVariants.{FloatUsed, BadJump, UnknownBootstrap, BadFrame}
 use Rattle.class_verify.specs.declared.frames.Written.{Written}
 use Rattle.class_verify.specs.declared.kinds.Kind.{Kind}
-use Rattle.class_verify.specs.declared.kinds.Kind.TheVariants as kinds
 use Rattle.class_verify.specs.declared.shape.Shape.{Shape}
 use Rattle.class_verify.specs.Bodies.{Body, Point, first_point, joined_to, joined, shape_before, fallen, following, point_of}
 use Rattle.class_verify.specs.Decoded.{decoded}
 use Rattle.class_verify.specs.Effects.{left}
-use Rattle.class_verify.specs.Floats.{uses_float}
 use Rattle.class_verify.specs.Frames.{frame_at}
 use Rattle.class_verify.specs.Kinds.{all_fit}
 use Rattle.class_verify.specs.LawsOfFamilies.{IsFramed, IsTarget, IsHandler, IsRight, IsFamily, EachFamilyFits}
 use Rattle.class_verify.specs.LawsOfShapes.{IsFormed, IsFormedBody, IsLeftSo}
-use Rattle.class_verify.specs.Misfits.{unless, ◌<|>◌, is_float_frame, ends_well, is_sound_after, is_sound, named_cause, cause_of, by_decoded, cause_at, strays, IsMisfit, at_instruction, at_no_instruction}
+use Rattle.class_verify.specs.Misfits.{unless, ◌<|>◌, is_float_frame, ends_well, is_sound_after, is_sound, named_cause, cause_of, by_decoded, cause_at, strays, at_instruction, at_no_instruction}
 use Rattle.class_verify.specs.Pairs.{is_paired_stack}
 use Rattle.class_verify.specs.Places.{next_place, leads_to, begins}
 use Rattle.class_verify.specs.Shapes.{shape_fits}

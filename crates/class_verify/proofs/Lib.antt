@@ -8,6 +8,7 @@ pub mod Lefts
 pub mod Methods
 pub mod Monotone
 pub mod Moves
+pub mod Naming
 pub mod Ordering
 pub mod Padding
 pub mod PairedLocals

@@ -1,6 +1,6 @@
 -- Code that fits by a family of shapes, one for each instruction (JVMS 4.10.1). Where there is such a family the code
 -- fits, so that its check asks for no more.
-use Rattle.std.specs.Prelude.{◌≡◌, ℕ, zero, ◌<◌, true, false, List, [], ◌∷◌, length, Contains, Some, Ok}
+use Rattle.std.specs.Prelude.{◌≡◌, ℕ, ◌<◌, true, false, [], ◌∷◌, length, Contains, Some, Ok}
 use Rattle.jvm_tables.specs.declared.code.Instr.{Instr}
 use Rattle.jvm_tables.specs.declared.instruction.OpRow.{OpRow}
 use Rattle.class_model.specs.declared.attribute_forms.Handler.{Handler}

@@ -7,6 +7,7 @@ pub mod Frames
 pub mod Groups
 pub mod Kinds
 pub mod Laws
+pub mod LawsOfConstants
 pub mod LawsOfEntries
 pub mod LawsOfFamilies
 pub mod LawsOfInstructions

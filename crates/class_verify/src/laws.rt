@@ -1,6 +1,7 @@
 //! What verification promises of code to the machine that runs it.
 
 ghost use Rattle.class_verify.specs.Laws.{EachIsSafe, EachGivenIsSafe};
+ghost use Rattle.class_verify.specs.LawsOfConstants.{EachFieldIsNamed, EachMethodIsNamed, EachSiteIsNamed, EachMethodFits};
 ghost use Rattle.class_verify.specs.LawsOfEntries.{EachBegins, EachEntryIsTold};
 ghost use Rattle.class_verify.specs.LawsOfFamilies.{EachFamilyFits};
 ghost use Rattle.class_verify.specs.LawsOfInstructions.{EachIsPlaced, EachLeavesByParts, EachPartIsLeft, EachExchanges, EachMoves};
@@ -56,4 +57,14 @@ pub fn shapes_that_fit_leave_so()
 /// each, and the file writes its frames for them, one behind each instruction from which control doesn't go on.
 pub fn code_with_shapes_fits()
     ensures { EachFamilyFits }
+{}
+
+/// In code that fits the constant of an instruction on a field or a method is a member of a tag that it may name, whose
+/// descriptor spells a type, and that of an invokedynamic has a call site. Each method of a verified program that has
+/// code has a body that fits.
+pub fn constants_name_members()
+    ensures fields { EachFieldIsNamed }
+    ensures methods { EachMethodIsNamed }
+    ensures sites { EachSiteIsNamed }
+    ensures bodies { EachMethodFits }
 {}

@@ -25,7 +25,7 @@ pub use floats::uses_float;
 pub use frames::{Limits, Written};
 pub use kinds::Kind;
 pub use laws::{
-    code_that_fits_begins, code_that_fits_is_safe, code_with_shapes_fits,
+    code_that_fits_begins, code_that_fits_is_safe, code_with_shapes_fits, constants_name_members,
     instructions_leave_by_parts, shapes_are_formed, shapes_that_fit_leave_so,
 };
 pub use locals::Locals;
