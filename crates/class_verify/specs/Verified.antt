@@ -1,14 +1,9 @@
 -- Verified methods, classes and programs.
 use Rattle.std.specs.Prelude.{◌≡◌, ℕ, true, false, List, [], ◌∷◌, ◌++◌, map, All, Option, Some, None}
-use Rattle.class_model.specs.declared.attribute_forms.Attribute.{Attribute, out-Attribute}
-use Rattle.class_model.specs.declared.attribute_forms.Attribute.TheOpen.{Attribute-F}
-use Rattle.class_model.specs.declared.attribute_forms.Handler.{Handler}
 use Rattle.class_model.specs.declared.class_file.Class.{Class}
 use Rattle.class_model.specs.declared.class_file.Member.{Member}
 use Rattle.class_model.specs.declared.identifiers.MethodId.{MethodId}
 use Rattle.class_model.specs.declared.stack_map.FrameType.{FrameType}
-use Rattle.class_model.specs.declared.stack_map.StackFrame.{StackFrame}
-use Rattle.class_model.specs.Layers.{AttributeLayer}
 use Rattle.class_model.specs.Shape.{class_name, name_text, descriptor_text}
 use Rattle.class_verify.specs.declared.cause.Cause.{Cause}
 use Rattle.class_verify.specs.declared.cause.Cause.TheVariants as causes
