@@ -10,9 +10,9 @@ IsPutFolder folder entry = (length folder ≡ 0) × (entry ≡ codes ".put")
 abbrev pub IsNoSource : List ℕ → List ℕ → Type 0
 IsNoSource folder entry = ((length folder ≡ 0) × (entry ≡ codes "out")) ⊎ IsTrue (starts_with nat_eq entry (codes "."))
 
--- the name of a file in the folder in which a store puts bytes first
-abbrev pub IsForPuts : List ℕ → Type 0
-IsForPuts name = IsTrue (starts_with nat_eq name (codes ".put/"))
+-- the name of a file that a store keeps for itself: its lock, and those in the folder in which it puts bytes first
+abbrev pub IsOwn : List ℕ → Type 0
+IsOwn name = (name ≡ codes ".lock") ⊎ IsTrue (starts_with nat_eq name (codes ".put/"))
 
 -- the name of a file of the results
 abbrev pub IsOfResults : List ℕ → Type 0

@@ -5,8 +5,6 @@ ghost use Rattle.io_traits.specs.Causes.{HasCause};
 ghost use Rattle.io_real.specs.Counts.{settled, kept_now, no_faults};
 
 use io_traits::IoFault;
-use std::io;
-use std::io::ErrorKind;
 
 /// How many faults there were, and how many at the last `begin`. The count stands still at its last value.
 #[derive(Clone, Copy, Debug, PartialEq, Eq)]
@@ -40,22 +38,4 @@ impl FaultCount {
     {
         self.kept = self.now;
     }
-}
-
-// What an error of the system is: want of memory, or a failure.
-pub(crate) fn fault_of(error: io::Error) -> IoFault {
-    if error.kind() == ErrorKind::OutOfMemory {
-        IoFault::Memory
-    } else {
-        IoFault::Failed
-    }
-}
-
-// Whether an error says that nothing stands at a place: no such name, a file in place of a folder on the way, or
-// links that lead in a circle.
-pub(crate) fn is_absence(error: &io::Error) -> bool {
-    matches!(
-        error.kind(),
-        ErrorKind::NotFound | ErrorKind::NotADirectory | ErrorKind::FilesystemLoop
-    )
 }

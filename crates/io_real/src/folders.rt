@@ -1,13 +1,12 @@
-//! The files below a root folder.
+//! The places below a root folder.
 
-ghost use Rattle.std.specs.Prelude.{◌≡◌, ◌<◌, length, IsErrOf};
-
-use crate::counts::{fault_of, is_absence};
-use crate::names::folder_of;
+use crate::finds::{Found, find_by};
+use crate::kinds::{fault_of, is_absence};
+use crate::names::above;
+use crate::wholes::read_whole;
 use io_traits::IoFault;
 use std::alloc::AllocError;
 use std::fs;
-use std::io::Read;
 use std::rt::Files;
 use tree_value::{Bytes, Path};
 
@@ -22,15 +21,6 @@ pub const MAX_NAMES: usize = 1_048_576;
 pub struct Folder<R: Files + AllocGlobal + Clone + Drop> {
     pub(crate) rt: R,
     pub(crate) root: String,
-}
-
-/// What stands at a place, links followed.
-#[derive(Clone, Copy, Debug, PartialEq, Eq)]
-pub(crate) enum Found {
-    /// A file, with its size in bytes.
-    File(u64),
-    Folder,
-    Nothing,
 }
 
 impl<R: Files + AllocGlobal + Clone + Drop> Folder<R> {
@@ -49,100 +39,64 @@ impl<R: Files + AllocGlobal + Clone + Drop> Folder<R> {
         Ok(place)
     }
 
-    pub(crate) fn look(&self, place: &str) -> Result<Found, IoFault> {
-        match fs::metadata(&self.rt, place) {
-            Ok(found) if found.is_dir() => Ok(Found::Folder),
-            Ok(found) if found.is_file() => Ok(Found::File(found.len())),
-            Ok(_) => Ok(Found::Nothing),
-            Err(e) if is_absence(&e) => Ok(Found::Nothing),
-            Err(e) => Err(fault_of(e)),
-        }
+    // What a name leads to, links followed.
+    pub(crate) fn look(&self, name: &str) -> Result<Found, IoFault> {
+        let place = self.place(name)?;
+        find_by(fs::metadata(&self.rt, place.as_str()))
     }
 
-    /// The bytes of the file, or `None` where no file stands.
-    pub(crate) fn read(&self, name: &Path) -> Result<Option<Bytes>, IoFault> {
-        let place = self.place(text_of(name)?)?;
-        match self.look(place.as_str())? {
+    // What stands at a name itself, which may be a link.
+    pub(crate) fn look_at(&self, name: &str) -> Result<Found, IoFault> {
+        let place = self.place(name)?;
+        find_by(fs::symlink_metadata(&self.rt, place.as_str()))
+    }
+
+    // The bytes of what `look` found, or `None` where that is no file.
+    pub(crate) fn read(&self, name: &str, found: Found) -> Result<Option<Bytes>, IoFault> {
+        match found {
             Found::File(size) if size > MAX_FILE_LEN => Err(IoFault::Failed),
-            Found::File(_) => self.read_file(place.as_str()),
-            Found::Folder | Found::Nothing => Ok(None),
+            Found::File(_) => self.read_file(name),
+            Found::Folder | Found::Link | Found::Nothing => Ok(None),
         }
     }
 
-    fn read_file(&self, place: &str) -> Result<Option<Bytes>, IoFault> {
-        let file = match fs::open(&self.rt, place) {
-            Ok(file) => file,
-            Err(e) if is_absence(&e) => return Ok(None),
-            Err(e) => return Err(fault_of(e)),
-        };
-        let mut items = Vec::new(self.rt.alloc());
-        match file.take(MAX_FILE_LEN + 1).read_to_end(&mut items) {
-            Ok(_) if items.len() as u64 <= MAX_FILE_LEN => Ok(Some(Bytes::from_vec(items))),
-            Ok(_) => Err(IoFault::Failed),
+    fn read_file(&self, name: &str) -> Result<Option<Bytes>, IoFault> {
+        let place = self.place(name)?;
+        match fs::open(&self.rt, place.as_str()) {
+            Ok(file) => Ok(Some(read_whole(self.rt.alloc(), file)?)),
+            Err(e) if is_absence(&e) => Ok(None),
             Err(e) => Err(fault_of(e)),
         }
     }
 
-    /// Writes the bytes to a file in the folder for puts, and renames it to its place.
-    pub(crate) fn put(&self, name: &Path, bytes: &Bytes) -> Result<(), IoFault>
-        ensures no_name { length name.now ≡ 0 → IsErrOf result IoFault.Failed }
-        ensures large { MAX_FILE_LEN < length bytes.now → IsErrOf result IoFault.Failed }
-    {
-        if name.as_slice().is_empty() || bytes.len() as u64 > MAX_FILE_LEN {
-            return Err(IoFault::Failed);
-        }
-        let name = text_of(name)?;
-        let first = self.place(".put/file")?;
-        self.make_folder(".put")?;
-        fs::write(&self.rt, first.as_str(), bytes.as_slice()).map_err(fault_of)?;
-        if let Some(folder) = folder_of(name) {
-            self.make_folder(folder)?;
-        }
-        self.move_to(first.as_str(), name)
-    }
-
-    fn make_folder(&self, folder: &str) -> Result<(), IoFault> {
-        let place = self.place(folder)?;
-        fs::create_dir_all(&self.rt, place.as_str()).map_err(fault_of)
-    }
-
-    // Renames a file to its place, where an empty folder may stand.
-    fn move_to(&self, from: &str, name: &str) -> Result<(), IoFault> {
-        let place = self.place(name)?;
-        if self.look(place.as_str())? == Found::Folder {
-            fs::remove_dir(&self.rt, place.as_str()).map_err(fault_of)?;
-        }
-        fs::rename(&self.rt, from, place.as_str()).map_err(fault_of)
-    }
-
-    /// Removes the file, and the folders that are empty then. It is done where no file stands.
-    pub(crate) fn remove(&self, name: &Path) -> Result<(), IoFault> {
-        let name = text_of(name)?;
-        let place = self.place(name)?;
-        let Found::File(_) = self.look(place.as_str())? else {
-            return Ok(());
+    // Whether a folder is, links followed, one of those on the way to it.
+    pub(crate) fn is_below_itself(&self, folder: &str) -> Result<bool, IoFault> {
+        let Some(real) = self.real_path("")? else {
+            return Ok(false);
         };
-        match fs::remove_file(&self.rt, place.as_str()) {
-            Ok(()) => self.remove_empty(name),
-            Err(e) if is_absence(&e) => Ok(()),
-            Err(e) => Err(fault_of(e)),
+        let Some(end) = self.real_path(folder)? else {
+            return Ok(false);
+        };
+        if real.as_str() == end.as_str() {
+            return Ok(true);
         }
-    }
-
-    // Removes the folders of the name, the deepest first, up to one that is not empty.
-    fn remove_empty(&self, name: &str) -> Result<(), IoFault> {
-        let mut rest = name;
-        for _ in 0..name.len() {
-            let Some(folder) = folder_of(rest) else {
-                return Ok(());
-            };
-            let place = self.place(folder)?;
-            if fs::remove_dir(&self.rt, place.as_str()).is_err() {
-                return Ok(());
+        for (at, _) in folder.match_indices('/') {
+            match self.real_path(above(folder, at))? {
+                Some(real) if real.as_str() == end.as_str() => return Ok(true),
+                Some(_) | None => {}
             }
-            rest = folder;
         }
-        Ok(())
+        Ok(false)
+    }
+
+    // The path without links, or `None` where nothing stands.
+    fn real_path(&self, name: &str) -> Result<Option<String>, IoFault> {
+        let place = self.place(name)?;
+        match fs::canonicalize(&self.rt, place.as_str()) {
+            Ok(real) => Ok(Some(real.into_string())),
+            Err(e) if is_absence(&e) => Ok(None),
+            Err(e) => Err(fault_of(e)),
+        }
     }
 }
 

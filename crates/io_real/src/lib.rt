@@ -4,11 +4,17 @@
 #![tactic(auto)]
 
 mod counts;
+mod finds;
 mod folders;
+mod kinds;
 mod listings;
+mod locks;
 mod names;
+mod puts;
+mod removals;
 mod stores;
 mod streams;
+mod wholes;
 mod workspaces;
 
 pub use folders::{MAX_FILE_LEN, MAX_NAMES};

@@ -3,44 +3,57 @@
 ghost use Rattle.std.specs.Prelude.{IfOk, IsPermutation};
 ghost use Rattle.io_traits.specs.Files.{IsInOrder};
 
-use crate::counts::{fault_of, is_absence};
-use crate::folders::{Folder, Found, MAX_NAMES, text_of};
-use crate::names::{is_no_source, is_put_folder};
+use crate::finds::Found;
+use crate::folders::{Folder, MAX_NAMES, text_of};
+use crate::kinds::{fault_of, is_absence};
+use crate::names::{LOCK, above, is_no_source, is_put_folder};
 use io_traits::{IoFault, is_in_order};
 use std::fs;
 use std::rt::Files;
-use tree_value::{Path, PathFault};
+use tree_value::{Bytes, Path, PathFault};
 
-/// Which folders a listing leaves out.
+/// How a folder is listed.
 #[derive(Clone, Copy, Debug, PartialEq, Eq)]
-pub(crate) enum LeavesOut {
-    /// The folder for puts, as in a store.
-    Puts,
-    /// The folder of the results and those whose name begins with a dot, as in a workspace.
-    NoSources,
+pub(crate) enum Listing {
+    /// As a store: without its lock and the folder for puts, through no link.
+    Store,
+    /// As a workspace: without the folder of the results and those whose name begins with a dot, links followed, but
+    /// into no folder below itself.
+    Workspace,
+}
+
+// A folder to look into.
+#[derive(Drop)]
+struct Below {
+    name: Path,
+    // whether a link stands on the way to it
+    behind_link: bool,
 }
 
 // What a walk has found so far: the names of files, and folders to look into.
 #[derive(Drop)]
 struct Walk {
     names: Vec<Path>,
-    folders: Vec<Path>,
+    folders: Vec<Below>,
 }
 
 impl<R: Files + AllocGlobal + Clone + Drop> Folder<R> {
     /// The names of all files in byte order, each once.
-    pub(crate) fn list(&self, leaves_out: LeavesOut) -> Result<Vec<Path>, IoFault>
+    pub(crate) fn list(&self, listing: Listing) -> Result<Vec<Path>, IoFault>
         ensures { IfOk result (λ listed. IsInOrder listed.items) }
     {
         let mut walk = Walk {
             names: Vec::new(self.rt.alloc()),
             folders: Vec::new(self.rt.alloc()),
         };
-        self.look_into("", leaves_out, &mut walk)?;
+        self.look_into("", false, listing, &mut walk)?;
         for _ in 0..MAX_NAMES {
             match walk.folders.pop() {
                 None => return in_order(walk.names),
-                Some(folder) => self.look_into(text_of(&folder)?, leaves_out, &mut walk)?,
+                Some(folder) => {
+                    let name = text_of(&folder.name)?;
+                    self.look_into(name, folder.behind_link, listing, &mut walk)?;
+                }
             }
         }
         Err(IoFault::Failed)
@@ -49,7 +62,8 @@ impl<R: Files + AllocGlobal + Clone + Drop> Folder<R> {
     fn look_into(
         &self,
         folder: &str,
-        leaves_out: LeavesOut,
+        behind_link: bool,
+        listing: Listing,
         walk: &mut Walk,
     ) -> Result<(), IoFault> {
         let place = self.place(folder)?;
@@ -60,28 +74,76 @@ impl<R: Files + AllocGlobal + Clone + Drop> Folder<R> {
         };
         for entry in entries {
             let entry = entry.map_err(fault_of)?;
-            self.take(folder, entry.file_name(), leaves_out, walk)?;
+            let entry = entry.file_name();
+            match listing {
+                Listing::Store => self.take_stored(folder, entry, walk)?,
+                Listing::Workspace => self.take_source(folder, behind_link, entry, walk)?,
+            }
         }
         Ok(())
     }
 
-    // Takes one entry of a folder. A name outside the grammar of paths is a failure.
-    fn take(
+    // Takes one entry of a folder of a store. A name outside the grammar of paths is a failure.
+    fn take_stored(&self, folder: &str, entry: &str, walk: &mut Walk) -> Result<(), IoFault> {
+        let name = self.below(folder, entry)?;
+        let name = name.as_str();
+        let found = match self.look_at(name)? {
+            Found::Link => self.behind_link(name)?,
+            found => found,
+        };
+        match found {
+            Found::File(_) if name != LOCK => walk.add(self.path_of(name)?),
+            Found::Folder if !is_put_folder(folder.as_bytes(), entry.as_bytes()) => {
+                walk.enter(self.path_of(name)?, false)
+            }
+            Found::File(_) | Found::Folder | Found::Link | Found::Nothing => Ok(()),
+        }
+    }
+
+    // Takes one entry of a folder of a workspace, likewise.
+    fn take_source(
         &self,
         folder: &str,
+        behind_link: bool,
         entry: &str,
-        leaves_out: LeavesOut,
         walk: &mut Walk,
     ) -> Result<(), IoFault> {
         let name = self.below(folder, entry)?;
-        let place = self.place(name.as_str())?;
-        match self.look(place.as_str())? {
-            Found::File(_) => walk.add(self.path_of(name.as_str())?),
-            Found::Folder if !leaves_out.hides(folder, entry) => Ok(
-                walk.folders.push(self.path_of(name.as_str())?)?,
-            ),
-            Found::Folder | Found::Nothing => Ok(()),
+        let name = name.as_str();
+        match self.look(name)? {
+            Found::File(_) => walk.add(self.path_of(name)?),
+            Found::Folder if !is_no_source(folder.as_bytes(), entry.as_bytes()) => {
+                let path = self.path_of(name)?;
+                let behind_link = behind_link || self.look_at(name)? == Found::Link;
+                if behind_link && self.is_below_itself(name)? {
+                    return Ok(());
+                }
+                walk.enter(path, behind_link)
+            }
+            Found::Folder | Found::Link | Found::Nothing => Ok(()),
         }
+    }
+
+    /// The bytes of a file that a listing of the workspace gives, links followed, or `None`.
+    pub(crate) fn read_source(&self, name: &Path) -> Result<Option<Bytes>, IoFault> {
+        let name = text_of(name)?;
+        if self.leads_back(name)? {
+            return Ok(None);
+        }
+        self.read(name, self.look(name)?)
+    }
+
+    // Whether a folder on the way to the name lies below itself, so that no listing enters it.
+    fn leads_back(&self, name: &str) -> Result<bool, IoFault> {
+        let mut behind_link = false;
+        for (at, _) in name.match_indices('/') {
+            let folder = above(name, at);
+            behind_link = behind_link || self.look_at(folder)? == Found::Link;
+            if behind_link && self.is_below_itself(folder)? {
+                return Ok(true);
+            }
+        }
+        Ok(false)
     }
 
     fn below(&self, folder: &str, entry: &str) -> Result<String, IoFault> {
@@ -102,21 +164,19 @@ impl<R: Files + AllocGlobal + Clone + Drop> Folder<R> {
     }
 }
 
-impl LeavesOut {
-    fn hides(self, folder: &str, entry: &str) -> bool {
-        match self {
-            LeavesOut::Puts => is_put_folder(folder.as_bytes(), entry.as_bytes()),
-            LeavesOut::NoSources => is_no_source(folder.as_bytes(), entry.as_bytes()),
-        }
-    }
-}
-
 impl Walk {
     fn add(&mut self, name: Path) -> Result<(), IoFault> {
         if self.names.len() >= MAX_NAMES {
             return Err(IoFault::Failed);
         }
         Ok(self.names.push(name)?)
+    }
+
+    fn enter(&mut self, name: Path, behind_link: bool) -> Result<(), IoFault> {
+        if self.folders.len() >= MAX_NAMES {
+            return Err(IoFault::Failed);
+        }
+        Ok(self.folders.push(Below { name, behind_link })?)
     }
 }
 

@@ -1,13 +1,25 @@
 //! Which names an adapter leaves out.
 
 ghost use Rattle.std.specs.Prelude.{◌↔◌, IsTrue};
-ghost use Rattle.io_real.specs.Names.{IsForPuts, IsPutFolder, IsNoSource, IsOfResults};
+ghost use Rattle.io_real.specs.Names.{IsOwn, IsPutFolder, IsNoSource, IsOfResults};
 
-// Whether the name is of a file in the folder in which a put writes its bytes first.
-pub(crate) fn is_for_puts(name: &[u8]) -> bool
-    ensures { IsTrue result ↔ IsForPuts name.now }
+/// The file that a store locks.
+pub(crate) const LOCK: &str = ".lock";
+
+// Whether the name is of a file that the store keeps for itself: the lock, and those in the folder in which a put
+// writes its bytes first.
+pub(crate) fn is_own(name: &[u8]) -> bool
+    ensures { IsTrue result ↔ IsOwn name.now }
 {
-    name.starts_with(b".put/")
+    name == b".lock".as_slice() || name.starts_with(b".put/")
+}
+
+// Whether a file in the folder for puts is one that a put wrote.
+pub(crate) fn is_of_a_put(entry: &[u8]) -> bool {
+    entry == b"file".as_slice()
+        || entry
+            .iter()
+            .all(|byte| byte.is_ascii_digit() || *byte == b'-')
 }
 
 // Whether a store leaves out an entry of a folder: the folder for puts in the root.
@@ -42,6 +54,14 @@ fn has_dot_folder(name: &[u8]) -> bool {
         folder = Some(segment);
     }
     false
+}
+
+// The folder on the way to the name whose name ends at a slash.
+pub(crate) fn above(name: &str, slash: usize) -> &str {
+    match name.split_at_checked(slash) {
+        Some((folder, _)) => folder,
+        None => name,
+    }
 }
 
 // The folder in which the name stands, or `None` in the root.

@@ -5,9 +5,10 @@ ghost use Rattle.std.specs.Io.KnownBytes.{ReadConsumes, WriteAppends};
 ghost use Rattle.io_traits.specs.Causes.{HasCause};
 ghost use Rattle.io_real.specs.Counts.{settled, kept_now, no_faults};
 
-use crate::counts::{FaultCount, fault_of};
+use crate::counts::FaultCount;
+use crate::kinds::{fault_of, is_passing};
 use io_traits::{IoFault, Sink, Source};
-use std::io::{ErrorKind, Read, Write};
+use std::io::{Read, Write};
 
 /// The bytes of a reader, as standard input. It tells nothing of them.
 #[derive(Drop)]
@@ -44,7 +45,7 @@ impl<I: Read + Drop> Source for RealSource<I> {
     }
 }
 
-// Tries again where a signal interrupts the call.
+// Tries again where a signal interrupts the call, and where no byte is there yet.
 fn read_once<I: Read>(input: &mut I, into: &mut [u8]) -> Result<usize, IoFault>
     ensures within { IfOk result (λ n. n ≤ length into.old) }
     ensures bytes { ReadConsumes (I.remaining input.old) (I.remaining input.new) result into.new }
@@ -52,7 +53,7 @@ fn read_once<I: Read>(input: &mut I, into: &mut [u8]) -> Result<usize, IoFault>
     'tries: for _ in 0..u64::MAX {
         match input.read(into) {
             Ok(n) => return Ok(n),
-            Err(e) if e.kind() == ErrorKind::Interrupted => {}
+            Err(e) if is_passing(&e) => {}
             Err(e) => return Err(fault_of(e)),
         }
     }
@@ -112,8 +113,8 @@ impl<O: Write + Drop> Sink for RealSink<O> {
     }
 }
 
-// Tries again where a signal interrupts the call. A write that takes nothing of a piece is a failure, and so is
-// each error of the writer, want of memory too.
+// Tries again where a signal interrupts the call, and where the writer takes nothing yet. A write that takes nothing of a piece is a failure, and so is
+// each other error of the writer, want of memory too.
 fn write_once<O: Write>(output: &mut O, bytes: &[u8]) -> Result<usize, IoFault>
     ensures within { IfOk result (λ n. n ≤ length bytes.now) }
     ensures some { IfOk result (λ n. 0 < length bytes.now → 0 < n) }
@@ -127,7 +128,7 @@ fn write_once<O: Write>(output: &mut O, bytes: &[u8]) -> Result<usize, IoFault>
         match output.write(bytes) {
             Ok(0) => return Err(IoFault::Failed),
             Ok(n) => return Ok(n),
-            Err(e) if e.kind() == ErrorKind::Interrupted => {}
+            Err(e) if is_passing(&e) => {}
             Err(_) => return Err(IoFault::Failed),
         }
     }

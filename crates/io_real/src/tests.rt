@@ -65,7 +65,7 @@ fn get<S: Store>(rt: &HostRuntime, store: &mut S, name: &str) -> Result<char, Fa
 #[test]
 fn store_keeps_files_and_no_folders(rt: HostRuntime) -> Result<(), Fail> {
     let root = folder(&rt, "keeps")?;
-    let mut store = RealStore::over(rt, root.as_str())?;
+    let mut store = RealStore::over(rt, root.as_str(), 7)?;
     let mut told = String::new(rt.alloc());
     for name in ["b/c/d", "a", "b.x", "b/c/d"] {
         told.push(put(&rt, &mut store, name)?)?;
@@ -87,7 +87,7 @@ fn store_keeps_files_and_no_folders(rt: HostRuntime) -> Result<(), Fail> {
 #[test]
 fn store_counts_bad_places_and_loses_nothing(rt: HostRuntime) -> Result<(), Fail> {
     let root = folder(&rt, "refuses")?;
-    let mut store = RealStore::over(rt, root.as_str())?;
+    let mut store = RealStore::over(rt, root.as_str(), 7)?;
     let mut told = String::new(rt.alloc());
     fs::create_dir_all(&rt, below(&rt, &root, "empty")?.as_str())?;
     // a file, a file below it, a folder, a file in its place, a file in place of an empty folder, the folder for puts
@@ -106,7 +106,7 @@ fn store_counts_bad_places_and_loses_nothing(rt: HostRuntime) -> Result<(), Fail
 #[test]
 fn store_counts_files_that_it_cannot_give(rt: HostRuntime) -> Result<(), Fail> {
     let root = folder(&rt, "gives")?;
-    let mut store = RealStore::over(rt, root.as_str())?;
+    let mut store = RealStore::over(rt, root.as_str(), 7)?;
     let mut told = String::new(rt.alloc());
     told.push(put(&rt, &mut store, "a")?)?;
     fs::create(&rt, below(&rt, &root, "large")?.as_str())?.set_len(MAX_FILE_LEN + 1)?;
@@ -128,6 +128,45 @@ fn store_counts_files_that_it_cannot_give(rt: HostRuntime) -> Result<(), Fail> {
 }
 
 #[test]
+fn store_walks_through_no_link(rt: HostRuntime) -> Result<(), Fail> {
+    let root = folder(&rt, "links")?;
+    let mut store = RealStore::over(rt, root.as_str(), 7)?;
+    let mut told = String::new(rt.alloc());
+    for name in ["a", "m/x", "out/x"] {
+        told.push(put(&rt, &mut store, name)?)?;
+    }
+    for (to, link) in [("a", "b"), ("m", "n"), (".", "o"), ("a", ".put/7-4")] {
+        rt.symlink(to, below(&rt, &root, link)?.as_str())?;
+    }
+    for name in ["b", "n", "n/x", "o/a", "out/x"] {
+        told.push(get(&rt, &mut store, name)?)?;
+    }
+    for name in ["n/y", "d"] {
+        told.push(put(&rt, &mut store, name)?)?;
+    }
+    told.push_str(shown(&rt, store.list()?)?.as_str())?;
+    for name in ["b", "n/x", "o/a"] {
+        store.remove(&path(&rt, name)?)?;
+    }
+    told.push_str(shown(&rt, store.list()?)?.as_str())?;
+    assert_eq!(rt; told.as_str(), "+++?---=!+a b d m/x out/x a d m/x out/x ");
+    assert_eq!(rt; get(&rt, &mut store, "a")?, '=');
+    Ok(fs::remove_dir_all(&rt, root.as_str())?)
+}
+
+#[test]
+fn store_gives_large_files_whole(rt: HostRuntime) -> Result<(), Fail> {
+    let root = folder(&rt, "large")?;
+    let name = path(&rt, "large")?;
+    let bytes = Bytes::from_vec("0123456789".repeat(rt.alloc(), 20_000)?.into_bytes());
+    let mut store = RealStore::over(rt, root.as_str(), 7)?;
+    store.put(&name, &bytes)?;
+    let found = store.get(&name)?;
+    assert!(rt; found.is_some_and(|found| found.as_slice() == bytes.as_slice()));
+    Ok(fs::remove_dir_all(&rt, root.as_str())?)
+}
+
+#[test]
 fn workspace_leaves_out_results_and_hidden_folders(rt: HostRuntime) -> Result<(), Fail> {
     let root = folder(&rt, "workspace")?;
     let mut workspace = RealWorkspace::over(rt, root.as_str())?;
@@ -139,26 +178,39 @@ fn workspace_leaves_out_results_and_hidden_folders(rt: HostRuntime) -> Result<()
         "src/.h/z",
         ".env",
         "src/.i",
+        "outer/x",
+        "a/b/c/d/e",
     ] {
         write(&rt, &root, name)?;
     }
-    rt.symlink("src", below(&rt, &root, "lib")?.as_str())?;
+    for (to, link) in [("src", "lib"), (".", "src/self"), ("..", "src/up")] {
+        rt.symlink(to, below(&rt, &root, link)?.as_str())?;
+    }
     let mut told = shown(&rt, workspace.list()?)?;
-    for name in ["src/x", "out/z", ".git/z", "src/.h/z", "src", "lib/x"] {
+    for name in [
+        "src/x",
+        "out/z",
+        ".git/z",
+        "src/.h/z",
+        "src",
+        "src/up/src/x",
+        "lib/x",
+        "outer/x",
+    ] {
         let found = workspace.read(&path(&rt, name)?)?;
         told.push(if found.is_some() { '=' } else { '-' })?;
     }
-    let listed = ".env lib/.i lib/out/y lib/x src/.i src/out/y src/x ";
+    let listed = ".env a/b/c/d/e lib/.i lib/out/y lib/x outer/x src/.i src/out/y src/x ";
     assert_eq!(rt;
         told.as_str(),
-        format!(in rt.alloc(); "{listed}=----=")?.as_str()
+        format!(in rt.alloc(); "{listed}=-----==")?.as_str()
     );
     workspace.begin()?;
     assert_eq!(rt; workspace.faults(), 0);
     Ok(fs::remove_dir_all(&rt, root.as_str())?)
 }
 
-// Fails each time but the first, at which it is interrupted.
+// Wants memory, after a call that is interrupted and one that would block.
 #[derive(Drop)]
 struct Broken {
     calls: u64,
@@ -172,7 +224,7 @@ impl Read for Broken {
 
 impl Write for Broken {
     fn write(&mut self, _buf: &[u8]) -> io::Result<usize> {
-        if self.calls > 1 {
+        if self.calls > 2 {
             return Ok(0);
         }
         Err(self.error())
@@ -186,11 +238,11 @@ impl Write for Broken {
 impl Broken {
     fn error(&mut self) -> io::Error {
         self.calls = self.calls.saturating_add(1);
-        if self.calls == 1 {
-            io::Error::from(ErrorKind::Interrupted)
-        } else {
-            io::Error::from(ErrorKind::OutOfMemory)
-        }
+        io::Error::from(match self.calls {
+            1 => ErrorKind::Interrupted,
+            2 => ErrorKind::WouldBlock,
+            _ => ErrorKind::OutOfMemory,
+        })
     }
 }
 

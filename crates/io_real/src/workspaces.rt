@@ -8,7 +8,7 @@ ghost use Rattle.io_real.specs.Names.{IsOfResults};
 
 use crate::counts::FaultCount;
 use crate::folders::Folder;
-use crate::listings::LeavesOut;
+use crate::listings::Listing;
 use crate::names::is_hidden;
 use io_traits::{IoFault, Workspace};
 use std::rt::Files;
@@ -17,8 +17,8 @@ use tree_value::{Bytes, Path};
 /// A workspace whose names are the files below a root folder, but for those in the folder `out` of the root and in
 /// folders whose name begins with a dot. It tells nothing of them.
 ///
-/// Folders are no content. Links are followed; one that leads nowhere, and what is neither file nor folder, is no
-/// content. A name that is no path, a file above [`MAX_FILE_LEN`](crate::MAX_FILE_LEN) bytes, and a listing above
+/// Folders are no content. Links are followed, but no folder is entered below itself, by its path without links; two
+/// links to one folder list it twice. A link that leads nowhere, and what is neither file nor folder, is no content. A name that is no path, a file above [`MAX_FILE_LEN`](crate::MAX_FILE_LEN) bytes, and a listing above
 /// [`MAX_NAMES`](crate::MAX_NAMES) names are failures.
 #[derive(Drop)]
 pub struct RealWorkspace<R: Files + AllocGlobal + Clone + Drop> {
@@ -65,7 +65,7 @@ impl<R: Files + AllocGlobal + Clone + Drop> Workspace for RealWorkspace<R> {
         ensures count { self.new.count ≡ settled result self.old.count }
         ensures cause { HasCause self.old.count.now self.new.count.now result }
     {
-        let answer = self.folder.list(LeavesOut::NoSources);
+        let answer = self.folder.list(Listing::Workspace);
         self.count.settle(answer)
     }
 
@@ -77,7 +77,7 @@ impl<R: Files + AllocGlobal + Clone + Drop> Workspace for RealWorkspace<R> {
         let answer = if is_hidden(name.as_slice()) {
             Ok(None)
         } else {
-            self.folder.read(name)
+            self.folder.read_source(name)
         };
         self.count.settle(answer)
     }

@@ -39,8 +39,9 @@ mod tests;
 mod top;
 mod words;
 
+use std::process;
 use std::process::ExitCode;
 
 fn main(rt: HostRuntime) -> ExitCode {
-    ExitCode::from(program::run(&rt))
+    ExitCode::from(program::run(&rt, process::id(rt.process())))
 }

@@ -6,7 +6,7 @@ use io_real::{RealSink, RealStore, RealWorkspace};
 use io_traits::IoFault;
 use std::alloc::{AllocGlobal, Global};
 use std::env::{Env, VarError};
-use std::fs::Files;
+use std::fs::{File, Files};
 use std::io::{ErrorKind, Print};
 use std::time::{Clock, SystemTime, UNIX_EPOCH};
 use std::{env, io};
@@ -92,22 +92,26 @@ fn moment<R: Clock>(rt: &R) -> u64 {
     }
 }
 
-fn devices<R: Files + AllocGlobal + Clone + Drop>(
+fn devices<R: Files<File = File> + AllocGlobal + Clone + Drop>(
     rt: &R,
+    process: u32,
 ) -> Result<(RealStore<R>, RealWorkspace<R>), IoFault> {
     Ok((
-        RealStore::over(rt.clone()?, OUT)?,
+        RealStore::over(rt.clone()?, OUT, process)?,
         RealWorkspace::over(rt.clone()?, ".")?,
     ))
 }
 
-/// Runs the command of the process over the current folder, and gives the status to end with.
-pub fn run<R: Files + Env + Clock + Print + AllocGlobal + Clone + Drop>(rt: &R) -> u8 {
+/// Runs the command of the process of this number over the current folder, and gives the status to end with.
+pub fn run<R>(rt: &R, process: u32) -> u8
+where
+    R: Files<File = File> + Env + Clock + Print + AllocGlobal + Clone + Drop,
+{
     let alloc = rt.alloc();
     let sink = RealSink::over(io::writer(rt));
     match hand_over(rt) {
         Err(reply) => refuse(alloc, sink, reply),
-        Ok(handed) => match devices(rt) {
+        Ok(handed) => match devices(rt, process) {
             Err(_) => refuse(alloc, sink, Reply::Memory),
             Ok((store, workspace)) => {
                 mill_one(
