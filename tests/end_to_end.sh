@@ -125,14 +125,14 @@ expect_entry() {
     same "$name: log of $1" "$work/log" "out/$1.log"
 }
 
-# The entries and the logs of these tasks, and nothing else, are in `out`.
+# The entries and the logs of these tasks, and nothing else but the lock, are in `out`.
 expect_files() {
     name=$1
     shift
     for task in "$@"; do
         printf 'out/%s.json\nout/%s.log\n' "$task" "$task"
     done >"$work/wanted_files"
-    find out -type f | sort >"$work/files"
+    find out -type f ! -name .lock | sort >"$work/files"
     same "$name: files of out" "$work/wanted_files" "$work/files"
 }
 
@@ -186,7 +186,7 @@ touch out/a.dest/g1/x out/a.dest/g01/x out/a.dest/readme out/other
 expect "an unpublished generation" 0 5 -j 1 show a
 expect_entry "an unpublished generation" a 1 "$hash" 5
 printf 'out/%s\n' a.dest/g01/x a.dest/readme a.json a.log other >"$work/wanted_files"
-find out -type f | sort >"$work/files"
+find out -type f ! -name .lock | sort >"$work/files"
 same "an unpublished generation: files of out" "$work/wanted_files" "$work/files"
 
 broken "a float constant" "build: A.a()I: float used" 139 013
@@ -292,6 +292,140 @@ expect "a task that is its own input" 3 "build: cycle through b" -j 1 show a
 rm classes/A.class
 set_byte classes/B.class 118 141
 expect "an input whose file is gone" 3 "build: unknown input a of b" -j 1 show b
+
+# ---- real folders
+
+# The file is there and has this content.
+expect_content() {
+    printf '%s' "$3" >"$work/wanted_content"
+    same "$1: content of $2" "$work/wanted_content" "$2"
+}
+
+# A cause that a command ends with, and the command once the cause is gone: a name, the status and the line.
+expect_fault() {
+    rm -f out/a.json
+    expect "$1" "$2" "$3" -j 1 show a
+}
+
+expect_healed() {
+    expect "$1, once it is gone" 0 5 -j 1 show a
+}
+
+fresh first
+mkdir -p "$work/outside/g1" out
+printf kept >"$work/outside/g1/f"
+ln -s "$work/outside" out/b.dest
+ln -s . out/m
+expect "links in out" 0 5 -j 1 show a
+mv out/a.json out/kept
+ln -s kept out/a.json
+expect "a link to an entry" 0 5 -j 1 --explain show a
+expect "links in out, kept" 0 5 -j 1 show a
+expect_content "links in out" "$work/outside/g1/f" kept
+[ -L out/b.dest ] && [ -L out/m ] && [ -L out/a.json ] || {
+    echo "links in out: one is gone"
+    failed=1
+}
+
+fresh first
+ln -s . self
+ln -s .. classes/up
+expect "links to folders around" 0 5 -j 1 show a
+ln -s classes again
+expect "a folder by a link" 3 "build: duplicate class A" -j 1 show a
+
+fresh first
+mkdir -p out/.put classes/outer/x/y/z outer
+cp classes/A.class classes/outer/x/y/z/A.class
+printf part >out/.put/1-1
+expect "a deep class file" 3 "build: duplicate class A" -j 1 show a
+rm -r classes/outer
+[ ! -e out/.put/1-1 ] || {
+    echo "a put that was stopped: its file is there"
+    failed=1
+}
+mv classes/A.class outer
+expect "a folder whose name ends as that of the results does" 3 "not built: outer/A.class" -j 1 show a
+
+fresh first
+mkdir out
+printf mine >out/.put
+expect_fault "a file in place of the folder for puts" 4 "store fault"
+expect_content "a file in place of the folder for puts" out/.put mine
+rm out/.put
+expect_healed "a file in place of the folder for puts"
+rm -r out/.put
+mkdir "$work/elsewhere"
+ln -s "$work/elsewhere" out/.put
+expect_fault "a link in place of the folder for puts" 4 "store fault"
+rm out/.put
+expect_healed "a link in place of the folder for puts"
+rm out/.lock
+mkdir out/.lock
+expect_fault "a folder in place of the lock" 4 "store fault"
+rmdir out/.lock
+expect_healed "a folder in place of the lock"
+ill=$(printf 'x\377')
+touch "out/$ill"
+expect_fault "a name in out that is no text" 4 "store fault"
+rm "out/$ill"
+expect_healed "a name in out that is no text"
+touch "classes/$ill"
+expect_fault "a name of a source that is no text" 5 "workspace fault"
+rm "classes/$ill"
+expect_healed "a name of a source that is no text"
+
+# Programs side by side over one folder, each of which runs the task anew.
+beside() {
+    runs=0
+    while [ "$runs" -lt 10 ]; do
+        rm -f out/a.json
+        "$program" -j 1 show a
+        runs=$((runs + 1))
+    done >"$work/beside.$1" 2>&1
+}
+
+fresh first
+for loop in 1 2 3 4 5 6 7 8; do
+    beside "$loop" &
+done
+wait
+cat "$work"/beside.* | sort | uniq -c | tr -s ' ' >"$work/told"
+echo " 80 5" >"$work/wanted_told"
+same "programs side by side" "$work/wanted_told" "$work/told"
+
+# Without leave to read or write: as another user where this one is root, who has leave for all.
+fresh first
+expect "before leave is taken" 0 5 -j 1 show a
+cp "$program" "$work/mill"
+printf '#!/bin/sh\nexec "%s" "$@"\n' "$work/mill" >"$work/other"
+if [ "$(id -u)" = 0 ] && command -v setpriv >/dev/null; then
+    chown -R 65534 "$work/build"
+    printf '#!/bin/sh\nexec setpriv --reuid=65534 --regid=65534 --clear-groups "%s" "$@"\n' "$work/mill" >"$work/other"
+fi
+if [ "$(id -u)" = 0 ] && ! command -v setpriv >/dev/null; then
+    echo "without leave: not tried, this user is root and there is no setpriv"
+else
+    chmod 755 "$work" "$work/mill" "$work/other"
+    program="$work/other"
+    for place in classes classes/A.class; do
+        chmod 000 "$place"
+        expect_fault "no leave to read $place" 5 "workspace fault"
+        chmod 755 "$place"
+        expect_healed "no leave to read $place"
+    done
+    for place in out/.put out; do
+        chmod 555 "$place"
+        [ "$place" = out ] || rm -f out/a.json
+        cp out/a.log "$work/log_before"
+        set_byte classes/A.class 139 007
+        expect "no leave to write in $place" 4 "store fault" -j 1 show a
+        set_byte classes/A.class 139 010
+        same "no leave to write in $place: log" "$work/log_before" out/a.log
+        chmod 755 "$place"
+        expect_healed "no leave to write in $place"
+    done
+fi
 
 # The sources that builds compile against have the methods of the tables, and compile.
 if command -v python3 >/dev/null; then

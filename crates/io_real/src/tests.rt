@@ -161,8 +161,10 @@ fn store_gives_large_files_whole(rt: HostRuntime) -> Result<(), Fail> {
     let bytes = Bytes::from_vec("0123456789".repeat(rt.alloc(), 20_000)?.into_bytes());
     let mut store = RealStore::over(rt, root.as_str(), 7)?;
     store.put(&name, &bytes)?;
-    let found = store.get(&name)?;
-    assert!(rt; found.is_some_and(|found| found.as_slice() == bytes.as_slice()));
+    let Some(found) = store.get(&name)? else {
+        return Err(Fail::from("the file is gone"));
+    };
+    assert!(rt; found.as_slice() == bytes.as_slice());
     Ok(fs::remove_dir_all(&rt, root.as_str())?)
 }
 
