@@ -135,9 +135,10 @@ fn store_walks_through_no_link(rt: HostRuntime) -> Result<(), Fail> {
     for name in ["a", "m/x", "out/x"] {
         told.push(put(&rt, &mut store, name)?)?;
     }
-    for (to, link) in [("a", "b"), ("m", "n"), (".", "o"), ("a", ".put/7-4")] {
-        rt.symlink(to, below(&rt, &root, link)?.as_str())?;
-    }
+    rt.symlink("a", below(&rt, &root, "b")?.as_str())?;
+    rt.symlink("m", below(&rt, &root, "n")?.as_str())?;
+    rt.symlink(".", below(&rt, &root, "o")?.as_str())?;
+    rt.symlink("a", below(&rt, &root, ".put/7-4")?.as_str())?;
     for name in ["b", "n", "n/x", "o/a", "out/x"] {
         told.push(get(&rt, &mut store, name)?)?;
     }
@@ -185,9 +186,9 @@ fn workspace_leaves_out_results_and_hidden_folders(rt: HostRuntime) -> Result<()
     ] {
         write(&rt, &root, name)?;
     }
-    for (to, link) in [("src", "lib"), (".", "src/self"), ("..", "src/up")] {
-        rt.symlink(to, below(&rt, &root, link)?.as_str())?;
-    }
+    rt.symlink("src", below(&rt, &root, "lib")?.as_str())?;
+    rt.symlink(".", below(&rt, &root, "src/self")?.as_str())?;
+    rt.symlink("..", below(&rt, &root, "src/up")?.as_str())?;
     let mut told = shown(&rt, workspace.list()?)?;
     for name in [
         "src/x",
