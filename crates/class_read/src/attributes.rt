@@ -342,7 +342,7 @@ fn some_code_attributes_in<'a>(
 ) -> Result<(Attributes, &'a [u8]), ClassFault>
     ensures { Gives (λ r. (r.0, r.1.now)) result (many_after (code_attribute_at pool.now) [] count end bytes.now) }
 {
-    let mut found = Found::new(alloc);
+    let mut found = Found::new(alloc, count, bytes)?;
     let mut rest = bytes;
     for i in 0..count {
         match code_attribute_in(alloc, pool, &found, end, rest) {
@@ -488,7 +488,7 @@ fn some_attributes_in<'a>(
 ) -> Result<(Attributes, &'a [u8]), ClassFault>
     ensures { Gives (λ r. (r.0, r.1.now)) result (many_after (attribute_at pool.now (stand_of stand.entry) barred) [] count end bytes.now) }
 {
-    let mut found = Found::new(alloc);
+    let mut found = Found::new(alloc, count, bytes)?;
     let mut rest = bytes;
     for i in 0..count {
         match attribute_in(alloc, pool, stand, barred, &found, end, rest) {

@@ -13,8 +13,7 @@ use crate::numbers::{place_of, u2_in};
 use crate::stands::Stand;
 use crate::targets::{field_name_in, method_name_in};
 use class_model::{Member, MemberNames, Members, has_code, is_bare, is_static};
-use const_pool::JudgedPool;
-use sqlite_items::Items;
+use const_pool::{JudgedPool, items_with_room};
 use std::alloc::{AllocError, Global};
 
 /// The members before one, and their names and descriptors.
@@ -31,14 +30,14 @@ impl<'p> Before<'p> {
     ghost use Rattle.class_text.specs.Classes.{is_new};
     ghost use Rattle.class_read.specs.Entered.{IsEntered};
 
-    fn new(alloc: Global) -> Before<'p>
-        ensures none { result.list ≡ [] }
-        ensures seen { (pool : Pool) → HasSeen pool [] result.names }
+    /// No members, with room for so many that stand at the front of bytes.
+    fn new(alloc: Global, count: u16, bytes: &[u8]) -> Result<Before<'p>, AllocError>
+        ensures none { IfOk result (λ before. before.list ≡ []) }
+        ensures seen { IfOk result (λ before. (pool : Pool) → HasSeen pool [] before.names) }
     {
-        Before {
-            list: Items::new(alloc),
-            names: MemberNames::new(alloc),
-        }
+        let list = items_with_room(alloc, count, bytes.len(), 8)?;
+        let names = MemberNames::new(alloc);
+        Ok(Before { list, names })
     }
 
     /// Enters a name and a descriptor, and tells whether no member before has both.
@@ -176,7 +175,7 @@ fn some_fields_in<'a>(
 ) -> Result<(Members, &'a [u8]), ClassFault>
     ensures { Gives (λ r. (r.0, r.1.now)) result (many_after (field_at pool.now) [] count end bytes.now) }
 {
-    let mut before = Before::new(alloc);
+    let mut before = Before::new(alloc, count, bytes)?;
     let mut rest = bytes;
     for i in 0..count {
         match field_in(alloc, pool, &mut before, end, rest) {
@@ -214,7 +213,7 @@ fn some_methods_in<'a>(
 ) -> Result<(Members, &'a [u8]), ClassFault>
     ensures { Gives (λ r. (r.0, r.1.now)) result (many_after (method_at pool.now) [] count end bytes.now) }
 {
-    let mut before = Before::new(alloc);
+    let mut before = Before::new(alloc, count, bytes)?;
     let mut rest = bytes;
     for i in 0..count {
         match method_in(alloc, pool, &mut before, end, rest) {

@@ -6,8 +6,7 @@ ghost use Rattle.class_text.specs.Attributes.{is_first, own_name};
 ghost use Rattle.class_read.specs.Stands.{place_of, Keeps};
 
 use class_model::{Attribute, Attributes};
-use const_pool::JudgedPool;
-use sqlite_items::Items;
+use const_pool::{JudgedPool, items_with_room};
 use std::alloc::{AllocError, Global};
 
 /// What attributes stand in; of a field its descriptor.
@@ -58,21 +57,23 @@ pub(crate) struct Found {
 }
 
 impl Found {
-    ghost use Rattle.std.specs.Prelude.{◌≡◌, ◌++◌, ◌∷◌, [], bytes_eq, map, OnOk};
+    ghost use Rattle.std.specs.Prelude.{◌≡◌, ◌++◌, ◌∷◌, [], bytes_eq, map, IfOk, OnOk};
     ghost use Rattle.class_model.specs.declared.constant_pool.Pool.{Pool};
     ghost use Rattle.class_model.specs.Attributes.{Place, is_known, attribute_name};
     ghost use Rattle.class_text.specs.Attributes.{is_first};
     ghost use Rattle.class_read.specs.Stands.{place_of, Keeps};
 
-    pub(crate) fn new(alloc: Global) -> Found
-        ensures none { result.list ≡ [] }
-        ensures keeps { (pool : Pool) (place : Place) → Keeps pool place result }
+    /// No attributes, with room for so many that stand at the front of bytes.
+    pub(crate) fn new(alloc: Global, count: u16, bytes: &[u8]) -> Result<Found, AllocError>
+        ensures none { IfOk result (λ found. found.list ≡ []) }
+        ensures keeps { IfOk result (λ found. (pool : Pool) (place : Place) → Keeps pool place found) }
     {
-        Found {
-            list: Items::new(alloc),
+        let list = items_with_room(alloc, count, bytes.len(), 6)?;
+        Ok(Found {
+            list,
             own: false,
             annotations: false,
-        }
+        })
     }
 
     /// Whether no attribute of a known name stands there yet.

@@ -6,7 +6,7 @@ use Rattle.class_read.proofs.attributes.some_code_attributes_in.Goals as goal
 
 pub loop-i-init : goal.loop-i-init
 loop-i-init c =
-    (c.new-found.ensures.keeps c.args.pool.now in_code, started (code_attribute_at c.args.pool.now) c.new-found.result.list c.args.count c.args.end c.args.bytes.now c.new-found.ensures.none)
+    (c.in_ok-found.ensures.keeps c.args.pool.now in_code, started (code_attribute_at c.args.pool.now) c.in_ok-found.found.list c.args.count c.args.end c.args.bytes.now c.in_ok-found.ensures.none)
 
 pub returns-in-Err : goal.returns-in-Err
 returns-in-Err c =

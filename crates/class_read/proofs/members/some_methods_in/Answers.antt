@@ -6,8 +6,8 @@ use Rattle.class_read.proofs.members.some_methods_in.Goals as goal
 
 pub loop-i-init : goal.loop-i-init
 loop-i-init c = (
-  started (method_at c.args.pool.now) c.new-before.result.list c.args.count c.args.end c.args.bytes.now c.new-before.ensures.none,
-  rw c.new-before.ensures.none (c.new-before.ensures.seen c.args.pool.now),
+  started (method_at c.args.pool.now) c.in_ok-before.before.list c.args.count c.args.end c.args.bytes.now c.in_ok-before.ensures.none,
+  rw c.in_ok-before.ensures.none (c.in_ok-before.ensures.seen c.args.pool.now),
 )
 
 pub returns-in-Err : goal.returns-in-Err
