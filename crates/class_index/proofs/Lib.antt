@@ -1,3 +1,4 @@
+pub mod Belows
 pub mod Built
 pub mod Climbs
 pub mod DeclarationLemmas

@@ -3,3 +3,4 @@ pub mod Graphs
 pub mod Orders
 pub mod Searches
 pub mod Told
+pub mod Turning

@@ -19,6 +19,12 @@ pub record IsReached (graph : List (List ℕ)) (from : ℕ) (marks : List Bool) 
   pub only : (x : ℕ) → is_marked marks x ≡ true → Reaches graph from x
   pub each : (x : ℕ) → Reaches graph from x → is_marked marks x ≡ true
 
+-- The marked places are those from which a place is reached.
+pub record IsReaching (graph : List (List ℕ)) (to : ℕ) (marks : List Bool) : Type 0 where
+  pub all : length marks ≡ length graph
+  pub only : (x : ℕ) → is_marked marks x ≡ true → Reaches graph x to
+  pub each : (x : ℕ) → Reaches graph x to → is_marked marks x ≡ true
+
 -- Of the first n places those are marked that are reached from themselves.
 pub record AreReturning (graph : List (List ℕ)) (n : ℕ) (marks : List Bool) : Type 0 where
   pub all : length marks ≡ n

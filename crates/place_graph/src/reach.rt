@@ -51,7 +51,8 @@ fn search(
     Ok(())
 }
 
-fn reached(alloc: Global, graph: &[Places], from: usize) -> Result<Vec<bool>, AllocError>
+/// Marks the places that are reached from a place.
+pub(crate) fn reached(alloc: Global, graph: &[Places], from: usize) -> Result<Vec<bool>, AllocError>
     requires graph { IsGraph graph.now }
     requires from { from < length graph.now }
     ensures { IfOk result (λ marks. IsReached graph.now from marks.items) }

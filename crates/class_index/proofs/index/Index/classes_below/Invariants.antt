@@ -2,5 +2,5 @@ use Rattle.std.proofs.Common.{◌≡◌}
 use Rattle.class_index.specs.Below.{first_below}
 use Rattle.class_index.proofs.index.Index.classes_below.Given as goal
 
-abbrev pub invariant-loop-place : goal.invariant-loop-place
-invariant-loop-place l = l.found ≡ first_below l.self l.high l.place
+abbrev pub invariant-loop-at : goal.invariant-loop-at
+invariant-loop-at l = l.found ≡ first_below l.self l.high l.at
