@@ -16,4 +16,3 @@ pub mod Pushes
 pub mod Questions
 pub mod Returning
 pub mod Subtypes
-pub mod TestPrograms

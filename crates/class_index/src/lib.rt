@@ -29,6 +29,3 @@ pub use lookup::Found;
 pub use members::{ABSTRACT_AT, Method, MethodView};
 pub use outline::{MemberOutline, Outline};
 pub use select::Selected;
-
-#[cfg(test)]
-mod tests;

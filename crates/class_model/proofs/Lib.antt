@@ -5,5 +5,4 @@ pub mod SeenMembers
 pub mod ProgramLemmas
 pub mod Dimensions
 pub mod Parameters
-pub mod TestClasses
 pub mod ClassParts

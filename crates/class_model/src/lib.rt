@@ -38,6 +38,3 @@ pub use modified_utf8::{is_modified_utf8, unit_in};
 pub use name_text::{CopyFault, Name, NameFault};
 pub use program_list::{Program, ProgramFault};
 pub use stack_map::{FrameType, FrameTypes, StackFrame, StackFrames};
-
-#[cfg(test)]
-mod tests;

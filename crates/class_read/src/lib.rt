@@ -23,12 +23,3 @@ pub use class_file::read_class;
 pub use limits::Limit;
 pub use load_fault::LoadFault;
 pub use loading::{is_class_path, load_set};
-
-#[cfg(test)]
-mod load_tests;
-#[cfg(test)]
-mod part_tables;
-#[cfg(test)]
-mod tables;
-#[cfg(test)]
-mod tests;

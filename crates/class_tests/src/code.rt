@@ -2,8 +2,8 @@
 
 ghost use Rattle.jvm_tables.specs.Switching.{IsSwitchAt};
 
-use crate::question::{Unanswered, bytes_of, number};
 use jvm_tables::{CodeFault, Instr, decode, is_switch, switch_case, switch_len, switch_target};
+use questions::{Unanswered, bytes_of, number};
 use std::alloc::{AllocError, Global};
 
 fn decoded(code: &[u8], pc: u32) -> Result<Result<Instr, CodeFault>, Unanswered> {

@@ -1,7 +1,7 @@
 //! The rows of the table of instructions (JVMS 6.5).
 
-use crate::question::{Unanswered, hex_number};
 use jvm_tables::{Flow, Form, OpRow, Operands, Operation, ValueKind, op_row};
+use questions::{Unanswered, hex_number};
 use std::alloc::{AllocError, Global};
 
 fn form_name(form: Form) -> &'static str {

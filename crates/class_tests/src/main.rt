@@ -1,16 +1,23 @@
 //! Asks the crates of class files the questions of the tables in data/, and prints each with its answer: what must be
 //! printed was written by hand from JVMS and docs/FORMATS.md, and stands in `stdout`. A line of a table is a question,
-//! or a label, a colon and a question; `text` says how a question writes bytes. It stands on all crates of class
+//! or a label, a colon and a question; `questions` says how a question writes bytes. It stands on all crates of class
 //! files and of the texts that are printed of them, so that these need no tests of their own; nothing stands on it.
 #![tactic(auto)]
 
+mod builds;
 mod code;
+mod descriptors;
+mod files;
+mod hierarchy;
 mod instructions;
+mod lines;
 mod names;
-mod question;
+mod pools;
+mod refusals;
 mod tables;
 
-use question::{Unanswered, words_of};
+use class_verify::ProgramOk;
+use questions::{Unanswered, words_of};
 use std::alloc::Global;
 use std::{fs, io};
 
@@ -21,13 +28,26 @@ enum Topic {
     Instructions,
     Code,
     Tables,
+    Pools,
+    Files,
+    Refusals,
+    Builds,
+    Lines,
+    Descriptors,
 }
 
-const TOPICS: [(Topic, &str); 4] = [
+const TOPICS: [(Topic, &str); 11] = [
     (Topic::Names, "names"),
     (Topic::Instructions, "instructions"),
     (Topic::Code, "code"),
     (Topic::Tables, "tables"),
+    (Topic::Pools, "pools"),
+    (Topic::Files, "files"),
+    (Topic::Refusals, "refusals"),
+    (Topic::Builds, "builds"),
+    (Topic::Lines, "lines"),
+    (Topic::Descriptors, "descriptors"),
+    (Topic::Builds, "methods"),
 ];
 
 fn answer_to(alloc: Global, topic: Topic, words: &[&str]) -> Result<String, Unanswered> {
@@ -36,6 +56,12 @@ fn answer_to(alloc: Global, topic: Topic, words: &[&str]) -> Result<String, Unan
         Topic::Instructions => instructions::answer_to(alloc, words),
         Topic::Code => code::answer_to(alloc, words),
         Topic::Tables => tables::answer_to(alloc, words),
+        Topic::Pools => pools::answer_to(alloc, words),
+        Topic::Files => files::answer_to(alloc, words),
+        Topic::Refusals => refusals::answer_to(alloc, words),
+        Topic::Builds => builds::answer_to(alloc, words),
+        Topic::Lines => lines::answer_to(alloc, words),
+        Topic::Descriptors => descriptors::answer_to(alloc, words),
     }
 }
 
@@ -63,9 +89,35 @@ fn print_answers(rt: &HostRuntime, topic: Topic, name: &str) -> io::Result<()> {
     Ok(())
 }
 
+fn answer_in(alloc: Global, program: &ProgramOk, question: &str) -> Result<String, Unanswered> {
+    let words = words_of(alloc, question)?;
+    hierarchy::answer_to(alloc, program, words.as_slice())
+}
+
+fn print_answer_in(rt: &HostRuntime, program: &ProgramOk, line: &str) -> io::Result<()> {
+    match answer_in(rt.alloc(), program, line) {
+        Ok(answer) => println!(rt; "{line} = {answer}"),
+        Err(_) => println!(rt; "{line} is no question"),
+    }
+}
+
+/// The questions of the hierarchy are asked of one program, whose files stand in a table of their own.
+fn print_hierarchy(rt: &HostRuntime) -> io::Result<()> {
+    let files = fs::read_to_string(rt, "hierarchy_files.txt")?;
+    let table = fs::read_to_string(rt, "hierarchy.txt")?;
+    println!(rt; "hierarchy")?;
+    let Ok(program) = builds::program_of(rt.alloc(), files.as_str()) else {
+        return println!(rt; "no program");
+    };
+    for line in table.as_str().lines() {
+        print_answer_in(rt, &program, line)?;
+    }
+    Ok(())
+}
+
 fn main(rt: HostRuntime) -> io::Result<()> {
     for (topic, name) in TOPICS {
         print_answers(&rt, topic, name)?;
     }
-    Ok(())
+    print_hierarchy(&rt)
 }

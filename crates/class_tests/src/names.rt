@@ -1,10 +1,10 @@
 //! Names and descriptors (JVMS 4.2, 4.3 and 4.4.7).
 
-use crate::question::{Unanswered, bytes_of};
 use class_model::{
     Name, NameFault, is_class_name, is_field_descriptor, is_method_descriptor, is_method_name,
     is_return_descriptor, is_unqualified, unit_in,
 };
+use questions::{Unanswered, bytes_of};
 use std::alloc::{AllocError, Global};
 use std::cmp::Ordering;
 

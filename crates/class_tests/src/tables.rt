@@ -1,10 +1,10 @@
 //! The rows of external classes and of natives (docs/FORMATS.md).
 
-use crate::question::Unanswered;
 use jvm_tables::{
     Callback, EXTERNALS, ExternalMethod, ExternalRow, NATIVES, NativeRow, external, external_at,
     native_at, native_row,
 };
+use questions::Unanswered;
 use std::alloc::{AllocError, Global};
 
 fn method_text(alloc: Global, method: Option<ExternalMethod>) -> Result<String, AllocError> {

@@ -33,8 +33,3 @@ pub use program_ok::{CheckFault, ProgramOk};
 pub use shape::Shape;
 pub use stack::Stack;
 pub use verification::verify;
-
-#[cfg(test)]
-mod site_tests;
-#[cfg(test)]
-mod tests;

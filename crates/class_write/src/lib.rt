@@ -14,6 +14,3 @@ mod order;
 
 pub use header::write_class;
 pub use laws::misfit_law;
-
-#[cfg(test)]
-mod tests;

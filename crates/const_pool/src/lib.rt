@@ -20,8 +20,3 @@ pub use pool_reader::read_pool;
 pub use pool_writer::{put_u2, put_u4, write_pool};
 pub use room::items_with_room;
 pub use write_fault::{AttributeId, AttributePart, Holder, MemberPart, Part, WriteFault};
-
-#[cfg(test)]
-mod tables;
-#[cfg(test)]
-mod tests;

@@ -4,8 +4,6 @@
 
 mod laws;
 mod lines;
-#[cfg(test)]
-mod tests;
 
 pub use laws::{one_line_law, plain_law, spelled_law};
 pub use lines::{push_name, push_path, push_units};

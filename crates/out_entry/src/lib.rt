@@ -6,8 +6,6 @@
 mod decode;
 mod encode;
 mod entry;
-#[cfg(test)]
-mod tests;
 
 pub use decode::{MAX_FILE_NAME_LEN, read_entry};
 pub use encode::entry_bytes;

@@ -14,8 +14,6 @@ mod putting;
 mod reading;
 mod removing;
 mod store;
-#[cfg(test)]
-mod tests;
 
 pub use fault::OutFault;
 pub use finished::{Finished, is_dest};

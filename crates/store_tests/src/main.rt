@@ -1,13 +1,16 @@
-//! Asks the crates of trees and devices the questions of the tables in data/, and prints each with its answer:
+//! Asks the crates of values, devices and results the questions of the tables in data/, and prints each with its answer:
 //! what must be printed was written by hand from docs/FORMATS.md and the contracts of the devices, and stands in
 //! `stdout`. A line of a table is a question, or a label, a colon and a question; `questions` says how a question writes
 //! bytes. It stands on the crates that it asks, so that these need no tests of their own; nothing stands on it.
 #![tactic(auto)]
 
 mod devices;
+mod entries;
 mod listed;
+mod results;
 mod streams;
 mod trees;
+mod values;
 
 use questions::{Unanswered, words_of};
 use std::alloc::Global;
@@ -17,21 +20,30 @@ use std::{fs, io};
 #[derive(Clone, Copy)]
 enum Topic {
     Trees,
+    Values,
+    Entries,
     Devices,
     Streams,
+    Results,
 }
 
-const TOPICS: [(Topic, &str); 3] = [
+const TOPICS: [(Topic, &str); 6] = [
     (Topic::Trees, "trees"),
+    (Topic::Values, "values"),
+    (Topic::Entries, "entries"),
     (Topic::Devices, "devices"),
     (Topic::Streams, "streams"),
+    (Topic::Results, "results"),
 ];
 
 fn answer_to(alloc: Global, topic: Topic, words: &[&str]) -> Result<String, Unanswered> {
     match topic {
         Topic::Trees => trees::answer_to(alloc, words),
+        Topic::Values => values::answer_to(alloc, words),
+        Topic::Entries => entries::answer_to(alloc, words),
         Topic::Devices => devices::answer_to(alloc, words),
         Topic::Streams => streams::answer_to(alloc, words),
+        Topic::Results => results::answer_to(alloc, words),
     }
 }
 

@@ -9,8 +9,6 @@ mod encode;
 mod fault;
 mod form;
 mod parts;
-#[cfg(test)]
-mod tests;
 mod texts;
 mod utf8;
 
