@@ -87,8 +87,8 @@ def fields_of_one_long_type(size):
 
 
 def methods_of_one_deep_type(size):
-    """30,000 abstract methods of one descriptor of 255 arrays of 255 dimensions, with distinct names."""
-    pool, descriptor = Pool(), "(" + ("[" * 255 + "I") * (255 // size) + ")V"
+    """30,000 abstract methods of one descriptor of 254 arrays of 255 dimensions, with distinct names."""
+    pool, descriptor = Pool(), "(" + ("[" * 255 + "I") * (254 // size) + ")V"
     methods = [member(pool, PUBLIC | ABSTRACT, f"m{at}", descriptor) for at in range(30_000 // size)]
     return {"C.class": class_file(pool, "C", methods=methods, flags=PUBLIC | SUPER | ABSTRACT)}
 
@@ -139,10 +139,10 @@ def annotation_of_long_names(size):
 
 
 def annotations_nested(size):
-    """2,000 annotations, each of arrays in arrays to a depth of 250."""
+    """2,000 annotations, each of arrays in arrays to a depth of 64, which is the greatest."""
     pool = Pool()
     value = pack(">BH", ord("s"), pool.text("s"))
-    for _ in range(250):
+    for _ in range(63):
         value = b"[" + counted([value])
     one = pack(">H", pool.text("LA;")) + counted([pack(">H", pool.text("v")) + value])
     return {"C.class": class_file(pool, "C", attributes=[annotations_of(pool, [one] * (2_000 // size))])}
@@ -202,12 +202,12 @@ def chain_of_equal_members(size):
 
 
 def classes_of_one_super(size):
-    """8,192 classes below one, and each of them with the same 100 interfaces, which have no classes above them."""
+    """8,091 classes below one, and each of them with the same 100 interfaces, which have no classes above them."""
     folder = {"Top.class": class_file(Pool(), "Top")}
     for at in range(100):
         pool = Pool()
         folder[f"I{at:03}.class"] = class_file(pool, f"I{at:03}", flags=PUBLIC | INTERFACE | ABSTRACT)
-    for at in range(8_192 // size):
+    for at in range(8_091 // size):
         pool, name = Pool(), f"C{at:04}"
         above = [pool.class_named(f"I{other:03}") for other in range(100)]
         folder[name + ".class"] = class_file(pool, name, interfaces=above, above="Top")
@@ -223,7 +223,7 @@ def names_with_one_front(size):
         for other in range(100):
             body += pack(">BH", 0xB8, pool.method(f"{front}{(at + other) % count:04}", "m", "()V"))
         method = method_of(pool, "m", code(pool, 0, 0, body + RETURN))
-        folder[name + ".class"] = class_file(pool, name, methods=[method])
+        folder[f"C{at:04}.class"] = class_file(pool, name, methods=[method])
     return folder
 
 

@@ -73,7 +73,7 @@ def measured(program, name):
             folder = Path(work) / f"{name}-{size}"
             total = sum(file.stat().st_size for file in (folder / "classes").iterdir())
             results.append((total, *run(program, folder)))
-    (total, taken, memory, line), (half_total, half_taken, half_memory, _) = results
+    (total, taken, memory, line), (half_total, half_taken, half_memory, half_line) = results
     ratio = taken / max(half_taken, LEAST_SECONDS)
     print(
         f"| {name} | {total:,} | {taken:.2f} s | {memory >> 20} MB "
@@ -81,6 +81,9 @@ def measured(program, name):
         flush=True,
     )
     misses = []
+    for told in (line, half_line):
+        if told.startswith(("build:", "workspace fault")):
+            misses.append(f"{name}: refused before its end: {told}")
     if taken > MOST_SECONDS:
         misses.append(f"{name}: {taken:.2f} s, above {MOST_SECONDS} s")
     if memory > MOST_BYTES:
