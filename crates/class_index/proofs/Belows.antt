@@ -1,6 +1,6 @@
 -- What is below a class, by marks.
-use Rattle.std.proofs.Common.{◌≡◌, ℕ, Bool, true, false, eqb, List, length, map, take, refl, sym, ◌∙◌, ap, subst}
-use Rattle.std.proofs.lemmas.Bool.{eq-eqb, ne_eqb, cases_Bool}
+use Rattle.std.proofs.Common.{◌≡◌, ℕ, Bool, true, false, List, length, map, take, refl, sym, ◌∙◌, ap, subst}
+use Rattle.std.proofs.lemmas.Bool.{eq-eqb, ne_eqb}
 use Rattle.std.specs.Prelude.{Option}
 use Rattle.class_model.specs.declared.identifiers.ClassId.{ClassId}
 use Rattle.place_graph.specs.Graphs.{is_among, beyond}

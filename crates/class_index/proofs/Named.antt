@@ -1,14 +1,13 @@
 -- The names in the table of external classes are names.
-use Rattle.std.proofs.Common.{◌≡◌, ℕ, zero, suc, ◌<◌, ◌&&◌, Bool, true, List, [], ◌∷◌, ◌++◌, length, map, get_or, Option, Some, None, slice_get, refl, sym, ◌∙◌, ap, subst, arith}
+use Rattle.std.proofs.Common.{◌≡◌, ℕ, zero, suc, ◌<◌, ◌&&◌, Bool, true, List, [], ◌∷◌, ◌++◌, length, Option, Some, None, slice_get, refl, sym, ◌∙◌, ap, subst, arith}
 use Rattle.std.specs.Prelude.{nat_lt, IfSome, option_map}
 use Rattle.std.specs.List.{All, AllByRecursion, flat_map}
 use Rattle.std.proofs.lemmas.Bool.{and_parts, ltb-true}
-use Rattle.std.proofs.lemmas.List.{get_or-map, length-map}
 use Rattle.std.proofs.lemmas.List.Elements.{All-nil, All-cons}
 use Rattle.class_model.specs.ModifiedUtf8.{unit, IsName}
 use Rattle.class_model.proofs.UnitLemmas.{one}
 use Rattle.jvm_tables.specs.declared.externals.ExternalRow.{ExternalRow}
-use Rattle.jvm_tables.specs.Externals.{External, Text, externals, said}
+use Rattle.jvm_tables.specs.Externals.{External, externals, said}
 use Rattle.class_index.specs.Outlines.{HasNames}
 use Rattle.class_index.proofs.Listings.{mapped}
 
@@ -88,10 +87,3 @@ pub found_has : (found : ExternalRow) (at : ℕ) → Some (said found) ≡ optio
 found_has found at e =
     let row = mapped (λ (r : External). (at, r)) (slice_get externals at) (said found) (sym e) in
     subst (λ (p : ℕ × External). HasNames p.1) row.2 (named_at externals at row.0 externals_are_named row.1)
-
--- a text of a list of names
-pub text_has : (texts : List Text) (at : ℕ) (d : Text) (bytes : List ℕ) → All IsName (map (λ (t : Text). t.now) texts) → at < length texts → bytes ≡ (get_or texts at d).now → IsName bytes
-text_has texts at d bytes all h e =
-    let read : get_or (map (λ (t : Text). t.now) texts) at [] ≡ (get_or texts at d).now = get_or-map (λ (t : Text). t.now) texts at d [] h in
-    let within : at < length (map (λ (t : Text). t.now) texts) = rw (length-map texts (λ (t : Text). t.now)) h in
-    subst IsName (read ∙ sym e) (all at [] within)

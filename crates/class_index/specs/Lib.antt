@@ -19,3 +19,4 @@ pub mod Selection
 pub mod Subtyping
 pub mod Supers
 pub mod Targets
+pub mod Texts

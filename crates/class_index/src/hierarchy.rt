@@ -6,6 +6,7 @@ ghost use Rattle.class_index.specs.Places.{IsPlaces, place_in};
 
 use crate::lists::push_some;
 use crate::outline::Outline;
+use crate::texts::SharedText;
 use class_model::{CopyFault, Name};
 use place_graph::Places;
 use sqlite_items::Items;
@@ -66,7 +67,7 @@ pub(crate) fn super_of(places: &NamePlaces, class: &Outline) -> Option<u32>
 fn interfaces_of(
     alloc: Global,
     places: &NamePlaces,
-    interfaces: &[Name],
+    interfaces: &[SharedText],
 ) -> Result<Places, AllocError>
     ensures { IfOk result (λ found. found ≡ filter_map (place_in places.now) interfaces.now) }
 {

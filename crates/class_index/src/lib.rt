@@ -17,6 +17,7 @@ mod resolve;
 mod select;
 mod subtype;
 mod targets;
+mod texts;
 
 pub use fault::IndexFault;
 pub use index::Index;
@@ -29,3 +30,4 @@ pub use lookup::Found;
 pub use members::{ABSTRACT_AT, Method, MethodView};
 pub use outline::{MemberOutline, Outline};
 pub use select::Selected;
+pub use texts::SharedText;

@@ -1,15 +1,17 @@
 //! What of a class its hierarchy is made of.
 
-ghost use Rattle.std.specs.Prelude.{◌≡◌, ℕ, [], All, IfOk, map, filter_map, unwrap_or, option_map};
+ghost use Rattle.std.specs.Prelude.{◌≡◌, IfOk, map, filter_map, option_map};
 ghost use Rattle.std.specs.Option.{ForSome};
-ghost use Rattle.class_model.specs.Constants.{text_at, class_at, IsPool};
+ghost use Rattle.class_model.specs.Constants.{class_at, IsPool};
 ghost use Rattle.class_model.specs.ModifiedUtf8.{IsName};
 ghost use Rattle.class_model.specs.Shape.{Shaped};
 ghost use Rattle.class_index.specs.Outlines.{member_outline, outline, outer_outline, outer_flags, HasNames};
+ghost use Rattle.class_index.specs.Texts.{AreTexts};
 ghost use Rattle.jvm_tables.specs.Externals.{said};
 
 use crate::lists::push_some;
-use class_model::{Class, Member, Name, Pool, Raw};
+use crate::texts::{SharedText, Texts, no_texts, text_of};
+use class_model::{Class, Constant, Member, Name, Pool};
 use jvm_tables::ExternalRow;
 use sqlite_items::Items;
 use std::alloc::{AllocError, Global};
@@ -17,8 +19,8 @@ use std::alloc::{AllocError, Global};
 /// A field or method by its texts.
 #[derive(Drop)]
 pub struct MemberOutline {
-    pub name: Raw,
-    pub descriptor: Raw,
+    pub name: SharedText,
+    pub descriptor: SharedText,
     pub flags: u16,
 }
 
@@ -27,31 +29,25 @@ pub struct MemberOutline {
 pub struct Outline {
     pub name: Name,
     pub super_class: Option<Name>,
-    pub interfaces: Items<Name>,
+    pub interfaces: Items<SharedText>,
     pub flags: u16,
     /// In file order, as the methods.
     pub fields: Items<MemberOutline>,
     pub methods: Items<MemberOutline>,
 }
 
-fn text_of(pool: &Pool, number: u16) -> &[u8]
-    ensures { result.now ≡ unwrap_or (text_at pool.now number) [] }
-{
-    match pool.text(number) {
-        Some(text) => text,
-        None => &[],
-    }
-}
-
 fn member_outline_of(
     alloc: Global,
     pool: &Pool,
+    texts: &mut Texts,
     member: &Member,
 ) -> Result<MemberOutline, AllocError>
-    ensures { IfOk result (λ found. found ≡ member_outline pool.now member.now) }
+    requires { AreTexts pool.now texts.old.items }
+    ensures value { IfOk result (λ found. found ≡ member_outline pool.now member.now) }
+    ensures texts { AreTexts pool.now texts.new.items }
 {
-    let name = Items::from_slice(alloc, text_of(pool, member.name))?;
-    let descriptor = Items::from_slice(alloc, text_of(pool, member.descriptor))?;
+    let name = text_of(alloc, pool, texts, member.name)?;
+    let descriptor = text_of(alloc, pool, texts, member.descriptor)?;
     Ok(MemberOutline {
         name,
         descriptor,
@@ -62,13 +58,16 @@ fn member_outline_of(
 fn member_outlines(
     alloc: Global,
     pool: &Pool,
+    texts: &mut Texts,
     members: &[Member],
 ) -> Result<Items<MemberOutline>, AllocError>
-    ensures { IfOk result (λ found. found ≡ map (member_outline pool.now) members.now) }
+    requires { AreTexts pool.now texts.old.items }
+    ensures value { IfOk result (λ found. found ≡ map (member_outline pool.now) members.now) }
+    ensures texts { AreTexts pool.now texts.new.items }
 {
     let mut outlines = Items::new(alloc);
     for member in members {
-        outlines.push(member_outline_of(alloc, pool, member)?)?;
+        outlines.push(member_outline_of(alloc, pool, texts, member)?)?;
     }
     Ok(outlines)
 }
@@ -83,14 +82,41 @@ fn class_name_of(alloc: Global, pool: &Pool, number: u16) -> Result<Option<Name>
     }
 }
 
+/// The name of a class, shared by all that have it.
+#[tactic(auto, unfolding(class_model::specs::Constants::class_at))]
+fn shared_class_name(
+    alloc: Global,
+    pool: &Pool,
+    texts: &mut Texts,
+    number: u16,
+) -> Result<Option<SharedText>, AllocError>
+    requires { AreTexts pool.now texts.old.items }
+    ensures value { IfOk result (λ found. found ≡ class_at pool.now number) }
+    ensures texts { AreTexts pool.now texts.new.items }
+{
+    let Some(Constant::Class(name)) = pool.constant(number) else {
+        return Ok(None);
+    };
+    if pool.text(*name).is_none() {
+        return Ok(None);
+    }
+    Ok(Some(text_of(alloc, pool, texts, *name)?))
+}
+
 #[tactic(auto, using(crate::proofs::Pushes::class_more))]
-fn class_names(alloc: Global, pool: &Pool, numbers: &[u16]) -> Result<Items<Name>, AllocError>
-    requires { IsPool pool.now }
-    ensures { IfOk result (λ found. found ≡ filter_map (class_at pool.now) numbers.now) }
+fn class_names(
+    alloc: Global,
+    pool: &Pool,
+    texts: &mut Texts,
+    numbers: &[u16],
+) -> Result<Items<SharedText>, AllocError>
+    requires { AreTexts pool.now texts.old.items }
+    ensures value { IfOk result (λ found. found ≡ filter_map (class_at pool.now) numbers.now) }
+    ensures texts { AreTexts pool.now texts.new.items }
 {
     let mut names = Items::new(alloc);
     for number in numbers {
-        let name = class_name_of(alloc, pool, *number)?;
+        let name = shared_class_name(alloc, pool, texts, *number)?;
         push_some(&mut names, name)?;
     }
     Ok(names)
@@ -102,9 +128,10 @@ pub(crate) fn outline_of(alloc: Global, class: &Class) -> Result<Outline, AllocE
 {
     let name = Name::of_valid(alloc, class.name())?;
     let super_class = class_name_of(alloc, &class.pool, class.super_class)?;
-    let interfaces = class_names(alloc, &class.pool, class.interfaces.as_slice())?;
-    let fields = member_outlines(alloc, &class.pool, class.fields.as_slice())?;
-    let methods = member_outlines(alloc, &class.pool, class.methods.as_slice())?;
+    let mut texts = no_texts(alloc, &class.pool)?;
+    let interfaces = class_names(alloc, &class.pool, &mut texts, class.interfaces.as_slice())?;
+    let fields = member_outlines(alloc, &class.pool, &mut texts, class.fields.as_slice())?;
+    let methods = member_outlines(alloc, &class.pool, &mut texts, class.methods.as_slice())?;
     Ok(Outline {
         name,
         super_class,
@@ -115,13 +142,12 @@ pub(crate) fn outline_of(alloc: Global, class: &Class) -> Result<Outline, AllocE
     })
 }
 
-fn given_names(alloc: Global, texts: &[&'static str]) -> Result<Items<Name>, AllocError>
-    requires { All IsName (map (λ t. t.now) texts.now) }
+fn given_names(alloc: Global, texts: &[&'static str]) -> Result<Items<SharedText>, AllocError>
     ensures { IfOk result (λ found. found ≡ map (λ t. t.now) texts.now) }
 {
     let mut names = Items::new(alloc);
     for text in texts {
-        names.push(Name::of_valid(alloc, text.as_bytes())?)?;
+        names.push(SharedText::copy_of(alloc, text.as_bytes())?)?;
     }
     Ok(names)
 }

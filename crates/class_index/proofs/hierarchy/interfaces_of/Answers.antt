@@ -9,5 +9,5 @@ pub loop-name-preserved : goal.loop-name-preserved
 loop-name-preserved c =
     let find = place_in c.args.places.now in
     c.in_ok-push_some.ensures ∙ ap (λ xs. xs ++ option_to_list c.place_named.result) c.loop-name.invariant
-    ∙ ap (λ o. filter_map find (take c.loop-name.name-index c.args.interfaces.now) ++ option_to_list o) (c.place_named.ensures ∙ ap find c.as_slice.ensures.value)
+    ∙ ap (λ o. filter_map find (take c.loop-name.name-index c.args.interfaces.now) ++ option_to_list o) (c.place_named.ensures ∙ ap find c.as_slice.ensures)
     ∙ sym (place_more find c.args.interfaces.now c.loop-name.name-index c.name-item.result (omega arith) c.name-item.is)

@@ -1,7 +1,7 @@
-use Rattle.std.proofs.Common.{◌≡◌, ℕ, ◌<◌, ◌^◌, List, Bool, length, sym, ◌∙◌, ap, subst, arith}
+use Rattle.std.proofs.Common.{ℕ, ◌<◌, ◌^◌, List, length, sym, subst}
 use Rattle.place_graph.specs.Graphs.{IsGraph}
 use Rattle.place_graph.specs.Searches.{IsReaching}
-use Rattle.class_index.specs.Hierarchy.{all_of, hierarchy, place}
+use Rattle.class_index.specs.Hierarchy.{all_of, place}
 use Rattle.class_index.specs.Places.{place_in}
 use Rattle.class_index.proofs.PlaceLemmas.{hierarchy_graph, length-hierarchy}
 use Rattle.class_index.proofs.Questions.{id_within}
