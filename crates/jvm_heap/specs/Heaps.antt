@@ -1,6 +1,10 @@
 -- The heap: objects by number, the cells that they cost together, and the objects that are kept to be given again.
-use Rattle.std.specs.Prelude.{ℕ, zero, suc, ◌+◌, ◌==◌, nat_lt, nat_le, ℤ, pos, negsuc, int_le, Bool, true, false, ◌&&◌, List, [], ◌∷◌, ◌++◌, length, replicate, bytes_eq, slice_get, slice_set, Option, Some, None, option_map, option_and_then, if◌then◌else◌}
-use Rattle.std.specs.Ordering.{int_eq}
+use Rattle.std.specs.Prelude.{ℕ, zero, suc, ◌+◌, ◌==◌, nat_lt, nat_le, ℤ, pos, negsuc, int_le, Bool, ◌&&◌, List, [], ◌∷◌, ◌++◌, length, replicate, slice_get, slice_set, Option, Some, None, option_map, option_and_then, if◌then◌else◌}
+use Rattle.std.specs.declared.cmp.Ordering.{Ordering}
+use Rattle.std.specs.Ordering.{nat_cmp, int_cmp, bool_cmp}
+use Rattle.std.specs.Cmp.Lexicographic.{slice_cmp}
+use Rattle.std.specs.Map.{lookup}
+use Rattle.std.specs.BTreeMap.{is_at, insert_entry}
 use Rattle.jvm_tables.specs.declared.elements.ElementKind.{ElementKind}
 use Rattle.jvm_tables.specs.declared.elements.ElementKind.TheVariants as elements
 use Rattle.jvm_heap.specs.declared.slot.Slot.{Slot}
@@ -67,14 +71,17 @@ zero_of kind = if kind.depth == 1 then zero_of_base kind.base else slots.Ref 0
 abbrev pub fresh_array : {C S : Type 0} → ArrayKind C → ℕ → Object C S
 fresh_array kind length = array kind (replicate length (zero_of kind))
 
--- what is kept under a key
-abbrev pub kept : {K : Type 0} → (K → K → Bool) → K → List (K × ℕ) → Option ℕ
-kept same key [] = None
-kept same key (entry ∷ entries) = if same key entry.0 then Some entry.1 else kept same key entries
+-- what is kept under a key, among entries in the order of their keys
+abbrev pub kept : {K : Type 0} → (K → K → Ordering) → K → List (K × ℕ) → Option ℕ
+kept order key entries = lookup (is_at (order key)) entries
+
+-- texts in the order of their units
+abbrev pub text_cmp : List ℕ → List ℕ → Ordering
+text_cmp = slice_cmp nat_cmp
 
 abbrev pub keep_text : {C S : Type 0} → List ℕ → ℕ × Heap C S → ℕ × Heap C S
 keep_text units made =
-    (made.0, record { objects = made.1.objects; cells = made.1.cells; texts = (units, made.0) ∷ made.1.texts; ints = made.1.ints; longs = made.1.longs; booleans = made.1.booleans })
+    (made.0, record { objects = made.1.objects; cells = made.1.cells; texts = insert_entry text_cmp made.1.texts units made.0; ints = made.1.ints; longs = made.1.longs; booleans = made.1.booleans })
 
 abbrev pub kept_or : {C S : Type 0} → Option ℕ → Heap C S → Option (ℕ × Heap C S) → Option (ℕ × Heap C S)
 kept_or (Some n) h otherwise = Some (n, h)
@@ -82,7 +89,7 @@ kept_or None h otherwise = otherwise
 
 -- The text of a string constant: equal constants have one (JVMS 5.1).
 unfoldable pub constant_text : {C S : Type 0} → List ℕ → Heap C S → Option (ℕ × Heap C S)
-constant_text units h = kept_or (kept bytes_eq units h.texts) h (option_map (keep_text units) (allocated (text units) h))
+constant_text units h = kept_or (kept text_cmp units h.texts) h (option_map (keep_text units) (allocated (text units) h))
 
 -- a value of which one box is kept
 abbrev pub is_small : ℤ → Bool
@@ -90,36 +97,31 @@ is_small n = int_le (negsuc 127) n && int_le n (pos 127)
 
 abbrev pub keep_int : {C S : Type 0} → ℤ → ℕ × Heap C S → ℕ × Heap C S
 keep_int n made =
-    (made.0, record { objects = made.1.objects; cells = made.1.cells; texts = made.1.texts; ints = (n, made.0) ∷ made.1.ints; longs = made.1.longs; booleans = made.1.booleans })
+    (made.0, record { objects = made.1.objects; cells = made.1.cells; texts = made.1.texts; ints = insert_entry int_cmp made.1.ints n made.0; longs = made.1.longs; booleans = made.1.booleans })
 
 -- `Integer.valueOf`
 unfoldable pub box_of_int : {C S : Type 0} → ℤ → Heap C S → Option (ℕ × Heap C S)
 box_of_int n h =
-    if is_small n then kept_or (kept int_eq n h.ints) h (option_map (keep_int n) (allocated (boxed_int n) h))
+    if is_small n then kept_or (kept int_cmp n h.ints) h (option_map (keep_int n) (allocated (boxed_int n) h))
     else allocated (boxed_int n) h
 
 abbrev pub keep_long : {C S : Type 0} → ℤ → ℕ × Heap C S → ℕ × Heap C S
 keep_long n made =
-    (made.0, record { objects = made.1.objects; cells = made.1.cells; texts = made.1.texts; ints = made.1.ints; longs = (n, made.0) ∷ made.1.longs; booleans = made.1.booleans })
+    (made.0, record { objects = made.1.objects; cells = made.1.cells; texts = made.1.texts; ints = made.1.ints; longs = insert_entry int_cmp made.1.longs n made.0; booleans = made.1.booleans })
 
 -- `Long.valueOf`
 unfoldable pub box_of_long : {C S : Type 0} → ℤ → Heap C S → Option (ℕ × Heap C S)
 box_of_long n h =
-    if is_small n then kept_or (kept int_eq n h.longs) h (option_map (keep_long n) (allocated (boxed_long n) h))
+    if is_small n then kept_or (kept int_cmp n h.longs) h (option_map (keep_long n) (allocated (boxed_long n) h))
     else allocated (boxed_long n) h
-
-abbrev pub same_truth : Bool → Bool → Bool
-same_truth true b = b
-same_truth false true = false
-same_truth false false = true
 
 abbrev pub keep_boolean : {C S : Type 0} → Bool → ℕ × Heap C S → ℕ × Heap C S
 keep_boolean b made =
-    (made.0, record { objects = made.1.objects; cells = made.1.cells; texts = made.1.texts; ints = made.1.ints; longs = made.1.longs; booleans = (b, made.0) ∷ made.1.booleans })
+    (made.0, record { objects = made.1.objects; cells = made.1.cells; texts = made.1.texts; ints = made.1.ints; longs = made.1.longs; booleans = insert_entry bool_cmp made.1.booleans b made.0 })
 
 -- `Boolean.valueOf`
 unfoldable pub box_of_boolean : {C S : Type 0} → Bool → Heap C S → Option (ℕ × Heap C S)
-box_of_boolean b h = kept_or (kept same_truth b h.booleans) h (option_map (keep_boolean b) (allocated (boxed_boolean b) h))
+box_of_boolean b h = kept_or (kept bool_cmp b h.booleans) h (option_map (keep_boolean b) (allocated (boxed_boolean b) h))
 
 -- the slots of an object that has any: fields, elements or captured values
 abbrev pub slots_of : {C S : Type 0} → Object C S → List Slot

@@ -1,3 +1,5 @@
 pub mod Operands
 pub mod Objects
 pub mod Heaps
+pub mod Contents
+pub mod Changes
