@@ -1,4 +1,6 @@
 pub mod Codes
 pub mod DescriptorLemmas
+pub mod Flagged
 pub mod SiteLemmas
+pub mod TextsTold
 pub mod Uses

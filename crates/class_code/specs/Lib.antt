@@ -2,6 +2,8 @@ pub mod Bootstraps
 pub mod Codes
 pub mod Constants
 pub mod Control
+pub mod Descriptors
+pub mod Flags
 pub mod Laws
 pub mod Named
 pub mod Operands

@@ -6,10 +6,11 @@ ghost use Rattle.jvm_tables.specs.declared.code.Instr.{Instr};
 ghost use Rattle.jvm_tables.specs.declared.instruction.ValueKind.TheVariants.{Int};
 ghost use Rattle.jvm_tables.specs.Agreement.{uses_constant};
 ghost use Rattle.class_model.specs.declared.class_file.Class.{Class};
-ghost use Rattle.class_code.specs.Types.{kind_of, signature_of};
-ghost use Rattle.class_code.specs.Constants.{number_of, constant_of, descriptor_at, name_at, is_bracket, dimensions_of, may_name, tags, descriptor_named, loaded, long_loaded, names_class, pushes, field_use, call_use, by_constant, said, values, use_of, if_told, use_if_told};
+ghost use Rattle.class_code.specs.Descriptors.{descriptors_of, use_of_call};
+ghost use Rattle.class_code.specs.Constants.{number_of, constant_of, descriptor_at, name_at, is_bracket, dimensions_of, may_name, tags, descriptor_named, loaded, long_loaded, names_class, pushes, field_use, by_constant, said, values, use_of, if_told, use_if_told};
 
-use crate::types::{kind_of, push_some, read_kinds};
+use crate::descriptors::{Descriptors, Told, told_of_named};
+use crate::types::push_some;
 use class_model::{Class, Constant, Pool};
 use jvm_tables::{ConstantUse, Instr, OpRow, Operands, Operation, ValueKind};
 use std::alloc::{AllocError, Global};
@@ -86,7 +87,7 @@ fn may_name(operation: Operation, made: usize, name: &[u8]) -> bool
     }
 }
 
-fn may_have(named: ConstantUse, tag: u8) -> bool
+pub(crate) fn may_have(named: ConstantUse, tag: u8) -> bool
     ensures { result ≡ list_any (λ t. t == tag) (tags named) }
 {
     match named {
@@ -170,19 +171,19 @@ fn put_loaded(loaded: Option<ValueKind>, gives: &mut Vec<ValueKind>) -> Result<b
 }
 
 fn put_field(
-    descriptor: Option<&[u8]>,
+    told: Option<&Told>,
     takes: &mut Vec<ValueKind>,
     gives: &mut Vec<ValueKind>,
 ) -> Result<bool, AllocError>
     requires takes { takes.old.items ≡ [] }
     requires gives { gives.old.items ≡ [] }
-    ensures { IfOk result (λ told. use_if_told told takes.new.items gives.new.items
-        ≡ option_map field_use (option_and_then kind_of (option_copied descriptor.entry))) }
+    ensures { IfOk result (λ is_told. use_if_told is_told takes.new.items gives.new.items
+        ≡ option_map field_use (option_and_then (λ t. t.field) (option_copied told.entry))) }
 {
-    let Some(descriptor) = descriptor else {
+    let Some(told) = told else {
         return Ok(false);
     };
-    match kind_of(descriptor) {
+    match told.field {
         Some(kind) => {
             takes.push(kind)?;
             gives.push(kind)?;
@@ -193,21 +194,22 @@ fn put_field(
 }
 
 fn put_call(
-    descriptor: Option<&[u8]>,
+    told: Option<&Told>,
     takes: &mut Vec<ValueKind>,
     gives: &mut Vec<ValueKind>,
 ) -> Result<bool, AllocError>
     requires takes { takes.old.items ≡ [] }
     requires gives { gives.old.items ≡ [] }
-    ensures { IfOk result (λ told. use_if_told told takes.new.items gives.new.items
-        ≡ option_map call_use (option_and_then signature_of (option_copied descriptor.entry))) }
+    ensures { IfOk result (λ is_told. use_if_told is_told takes.new.items gives.new.items
+        ≡ option_map use_of_call (option_and_then (λ t. t.call) (option_copied told.entry))) }
 {
-    let Some(descriptor) = descriptor else {
+    let Some(told) = told else {
         return Ok(false);
     };
-    match read_kinds(descriptor, takes)? {
-        Some(returned) => {
-            push_some(gives, returned.kind())?;
+    match &told.call {
+        Some(call) => {
+            takes.extend_from_slice(call.takes.as_slice())?;
+            push_some(gives, call.gives)?;
             Ok(true)
         }
         None => Ok(false),
@@ -215,7 +217,9 @@ fn put_call(
 }
 
 /// What the constant says of the values.
+#[tactic(auto, using(crate::proofs::TextsTold::field_told, crate::proofs::TextsTold::call_told))]
 fn put_said(
+    descriptors: &Descriptors,
     row: &OpRow,
     made: usize,
     pool: &Pool,
@@ -223,6 +227,7 @@ fn put_said(
     takes: &mut Vec<ValueKind>,
     gives: &mut Vec<ValueKind>,
 ) -> Result<bool, AllocError>
+    requires told { descriptors.now ≡ descriptors_of pool.now }
     requires takes { takes.old.items ≡ [] }
     requires gives { gives.old.items ≡ [] }
     ensures { IfOk result (λ told. use_if_told told takes.new.items gives.new.items
@@ -234,11 +239,15 @@ fn put_said(
         ConstantUse::LoadableLong => put_loaded(long_loaded(constant), gives),
         ConstantUse::Class => Ok(names_class(row.operation, made, pool, constant)),
         ConstantUse::Field => put_field(
-            descriptor_named(ConstantUse::Field, pool, constant),
+            told_of_named(descriptors, ConstantUse::Field, pool, constant),
             takes,
             gives,
         ),
-        named => put_call(descriptor_named(named, pool, constant), takes, gives),
+        named => put_call(
+            told_of_named(descriptors, named, pool, constant),
+            takes,
+            gives,
+        ),
     }
 }
 
@@ -313,12 +322,14 @@ impl Use {
     /// What the constant says of the values, where the instruction names one.
     fn say(
         &mut self,
+        descriptors: &Descriptors,
         class: &Class,
         row: &OpRow,
         instr: &Instr,
         made: usize,
     ) -> Result<bool, AllocError>
-        requires { made ≡ number_of instr.now.second }
+        requires told { descriptors.now ≡ descriptors_of class.now.pool }
+        requires made { made ≡ number_of instr.now.second }
         ensures { IfOk result (λ told. use_if_told told self.new.takes.items self.new.gives.items ≡ said class.now row.now instr.now) }
     {
         self.takes.clear();
@@ -328,6 +339,7 @@ impl Use {
         }
         match constant_of(class, instr) {
             Some(constant) => put_said(
+                descriptors,
                 row,
                 made,
                 &class.pool,
@@ -339,14 +351,21 @@ impl Use {
         }
     }
 
-    /// Becomes what an instruction takes and gives. False where the instruction's constant is none that it may name,
+    /// Becomes what an instruction takes and gives, by what the texts of its class say. False where the instruction's constant is none that it may name,
     /// and where neither its row nor a constant tells the values; then the buffers hold nothing of use.
     #[tactic(auto, unfolding(crate::specs::Constants::use_of))]
-    pub fn fill(&mut self, class: &Class, row: &OpRow, instr: &Instr) -> Result<bool, AllocError>
+    pub fn fill(
+        &mut self,
+        descriptors: &Descriptors,
+        class: &Class,
+        row: &OpRow,
+        instr: &Instr,
+    ) -> Result<bool, AllocError>
+        requires { descriptors.now ≡ descriptors_of class.now.pool }
         ensures { IfOk result (λ told. use_if_told told self.new.takes.items self.new.gives.items ≡ use_of class.now row.now instr.now) }
     {
         let made = number_of(instr.second);
-        if !self.say(class, row, instr, made)? {
+        if !self.say(descriptors, class, row, instr, made)? {
             return Ok(false);
         }
         if !put_values(row.takes, made, &mut self.takes)? {

@@ -7,6 +7,8 @@ mod bootstraps;
 mod code;
 mod constants;
 mod control;
+mod descriptors;
+mod flags;
 mod lambdas;
 mod laws;
 mod named;
@@ -23,10 +25,14 @@ pub use constants::{
     told_by_row,
 };
 pub use control::{covers, target};
+pub use descriptors::{
+    CallKinds, Descriptors, Told, descriptors_of, told_at, told_of_named, told_of_type,
+};
+pub use flags::{Flags, flag_of};
 pub use laws::{code_is_where_told_of, sound_sites_are_written};
 pub use named::{HandleView, MemberView, NamedView, handle_at, method_type_at, named_at};
 pub use operand::local_of;
 pub use row::{CatchView, OperandView, catch_of, operand_of};
 pub use site::{ConcatenationView, LambdaView, SiteView, written_site};
-pub use sites::SiteKinds;
+pub use sites::{SiteKinds, has_unknown_site, unknown_sites};
 pub use types::{Returned, has_float, kind, kind_of, read_kinds, returned_of};

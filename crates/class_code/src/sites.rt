@@ -7,8 +7,10 @@ ghost use Rattle.class_model.specs.Constants.{constant_at, is_some_that};
 ghost use Rattle.class_code.specs.Types.{read, signature_of};
 ghost use Rattle.class_code.specs.Parts.{lambda_site, concatenation_site, site};
 ghost use Rattle.class_code.specs.Sites.{takes_receiver, implementing_by, is_sound, lambda_kinds, is_joined, is_recipe, is_joining, is_sound_site, site_at, unknown_by, has_unknown_site};
+ghost use Rattle.class_code.specs.Flags.{if_site, unknown_sites};
+ghost use Rattle.jvm_tables.specs.declared.instruction.ConstantUse.TheVariants.{CallSite};
 
-use crate::constants::constant_of;
+use crate::flags::{Flags, flag_of};
 use crate::lambdas::{
     are_arguments, are_kinds, are_results, is_object, is_string, returns_to, takes_receiver,
 };
@@ -16,6 +18,7 @@ use crate::site::{ConcatenationView, LambdaView, SiteView, written_site};
 use crate::types::{Returned, read_kinds};
 use class_model::{Class, Constant, Pool};
 use jvm_tables::{ConstantUse, Instr, OpRow, ValueKind};
+use sqlite_items::Items;
 use std::alloc::{AllocError, Global};
 
 /// The kinds that the parts of a call site take. It is used again for one site after another.
@@ -201,42 +204,50 @@ impl SiteKinds {
         }
     }
 
-    fn is_unknown(
-        &mut self,
-        named: ConstantUse,
-        class: &Class,
-        constant: &Constant,
-    ) -> Result<bool, AllocError>
-        ensures { IfOk result (λ told. told ≡ unknown_by named class.now constant.now) }
+    /// Whether a constant is a call site that has no site.
+    fn is_unknown(&mut self, class: &Class, constant: &Constant) -> Result<bool, AllocError>
+        ensures { IfOk result (λ told. told ≡ unknown_by CallSite class.now constant.now) }
     {
-        match named {
-            ConstantUse::CallSite => match constant {
-                Constant::InvokeDynamic {
-                    bootstrap,
-                    name_type,
-                } => match self.site_at(class, *bootstrap, *name_type)? {
-                    Some(_) => Ok(false),
-                    None => Ok(true),
-                },
-                _ => Ok(false),
+        match constant {
+            Constant::InvokeDynamic {
+                bootstrap,
+                name_type,
+            } => match self.site_at(class, *bootstrap, *name_type)? {
+                Some(_) => Ok(false),
+                None => Ok(true),
             },
             _ => Ok(false),
         }
     }
+}
 
-    /// Whether an instruction is an invokedynamic that has no site. A constant that is no call site is not judged here.
-    #[tactic(auto, unfolding(crate::specs::Sites::has_unknown_site))]
-    pub fn has_unknown_site(
-        &mut self,
-        class: &Class,
-        row: &OpRow,
-        instr: &Instr,
-    ) -> Result<bool, AllocError>
-        ensures { IfOk result (λ told. told ≡ has_unknown_site class.now row.now instr.now) }
-    {
-        match constant_of(class, instr) {
-            Some(constant) => self.is_unknown(row.constant, class, constant),
-            None => Ok(false),
-        }
+/// Of each constant of a class, in order, whether it is a call site that has no site.
+#[tactic(auto, unfolding(crate::specs::Flags::unknown_sites))]
+pub fn unknown_sites(alloc: Global, class: &Class) -> Result<Flags, AllocError>
+    ensures { IfOk result (λ found. found ≡ unknown_sites class.now) }
+{
+    let mut kinds = SiteKinds::new(alloc);
+    let mut found = Items::new(alloc);
+    for constant in class.pool.constants.as_slice() {
+        found.push(kinds.is_unknown(class, constant)?)?;
     }
+    Ok(found)
+}
+
+fn if_site(named: ConstantUse, flag: bool) -> bool
+    ensures { result ≡ if_site named flag }
+{
+    match named {
+        ConstantUse::CallSite => flag,
+        _ => false,
+    }
+}
+
+/// Whether an instruction is an invokedynamic that has no site. A constant that is no call site is not judged here.
+#[tactic(auto, using(crate::proofs::Flagged::site_flagged))]
+pub fn has_unknown_site(unknown: &Flags, _class: &Class, row: &OpRow, instr: &Instr) -> bool
+    requires { unknown.now ≡ unknown_sites _class.now }
+    ensures { result ≡ has_unknown_site _class.now row.now instr.now }
+{
+    if_site(row.constant, flag_of(unknown, instr))
 }

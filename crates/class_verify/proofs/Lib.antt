@@ -2,6 +2,7 @@ pub mod Entries
 pub mod Families
 pub mod Firsts
 pub mod Fitting
+pub mod FloatTables
 pub mod Formed
 pub mod Given
 pub mod Lefts

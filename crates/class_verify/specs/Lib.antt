@@ -1,5 +1,6 @@
 pub mod Bodies
 pub mod CheckFaults
+pub mod ConstantTables
 pub mod Decoded
 pub mod Effects
 pub mod Floats

@@ -6,6 +6,7 @@ use Rattle.class_verify.specs.declared.frames.Written.{Written}
 use Rattle.class_verify.specs.Bodies.{Body, Point}
 use Rattle.class_verify.specs.Frames.{frame_at}
 use Rattle.class_verify.specs.Places.{begins}
+use Rattle.class_verify.specs.ConstantTables.{AreTables}
 use Rattle.std.specs.Prelude.{if◌then◌else◌}
 
 abbrev pub plain : parts.Body → Body
@@ -31,6 +32,7 @@ abbrev pub IsFramed : List ℕ → List Written → List (Option ℕ) → Type 0
 IsFramed code frames table = (pc : ℕ) → frame_of frames (slice_index_or table pc None) ≡ frame_at code frames pc
 
 pub record IsReady (b : parts.Body) : Type 0 where
+  pub tables : AreTables b.class.now b.tables.now
   pub some : 0 < length b.code.now
   pub short : length b.code.now ≤ 65535
   pub marked : IsMarked b.code.now b.marks.items

@@ -13,6 +13,7 @@ ghost use Rattle.class_code.specs.Control.{falls, targets_by};
 ghost use Rattle.class_verify.specs.Sweeps.{is_kept};
 ghost use Rattle.class_verify.specs.Targets.{accepts, is_accepted, fits_written, is_caught, catches_in};
 
+use crate::constant_tables::ConstantTables;
 use crate::frames::{Limits, Written};
 use crate::locals::Locals;
 use crate::places::place_behind;
@@ -27,6 +28,7 @@ use sqlite_items::Items;
 #[derive(Drop)]
 pub(crate) struct Body<'a> {
     pub class: &'a Class,
+    pub tables: &'a ConstantTables,
     /// The kind of the method's result.
     pub result: Option<ValueKind>,
     pub limits: Limits,

@@ -5,12 +5,13 @@ ghost use Rattle.jvm_tables.specs.Agreement.{names_local, increments};
 ghost use Rattle.class_code.specs.Operands.{local_of};
 ghost use Rattle.class_verify.specs.Effects.{is_slots, used, stack_after, is_read, with_store, locals_after, left};
 ghost use Rattle.class_code.specs.Constants.{use_of};
+ghost use Rattle.class_code.specs.Descriptors.{descriptors_of};
 ghost use Rattle.class_verify.specs.Stacks.{below_values, with_values};
 
 use crate::locals::Locals;
 use crate::shape::Shape;
 use crate::stack::Stack;
-use class_code::{Use, local_of, told_by_row};
+use class_code::{Descriptors, Use, local_of, told_by_row};
 use class_model::Class;
 use jvm_tables::{Instr, OpRow, Operands, ValueKind};
 use std::alloc::AllocError;
@@ -36,18 +37,20 @@ fn exchange(stack: &mut Stack, takes: &[ValueKind], gives: &[ValueKind]) -> Resu
 
 /// Takes and puts what the row or the constant of an instruction tells, if they are there.
 fn use_values(
+    descriptors: &Descriptors,
     class: &Class,
     row: &OpRow,
     instr: &Instr,
     stack: &mut Stack,
     uses: &mut Use,
 ) -> Result<bool, AllocError>
+    requires { descriptors.now ≡ descriptors_of class.now.pool }
     ensures { IfOk result (λ is_there. MatchBool is_there (used (use_of class.now row.now instr.now) stack.old ≡ Some stack.new) (used (use_of class.now row.now instr.now) stack.old ≡ None)) }
 {
     if let Some((takes, gives)) = told_by_row(row) {
         return exchange(stack, takes, gives);
     }
-    if !uses.fill(class, row, instr)? {
+    if !uses.fill(descriptors, class, row, instr)? {
         return Ok(false);
     }
     exchange(stack, uses.takes.as_slice(), uses.gives.as_slice())
@@ -55,18 +58,20 @@ fn use_values(
 
 #[tactic(auto, unfolding(crate::specs::Effects::stack_after))]
 fn change_stack(
+    descriptors: &Descriptors,
     class: &Class,
     row: &OpRow,
     instr: &Instr,
     stack: &mut Stack,
     uses: &mut Use,
 ) -> Result<bool, AllocError>
+    requires { descriptors.now ≡ descriptors_of class.now.pool }
     ensures { IfOk result (λ is_there. MatchBool is_there (stack_after class.now row.now instr.now stack.old ≡ Some stack.new) (stack_after class.now row.now instr.now stack.old ≡ None)) }
 {
     if is_slots(row.takes) {
         stack.move_slots(row.operation)
     } else {
-        use_values(class, row, instr, stack, uses)
+        use_values(descriptors, class, row, instr, stack, uses)
     }
 }
 
@@ -105,6 +110,7 @@ fn change_locals(row: &OpRow, instr: &Instr, locals: &mut Locals) -> Result<bool
 /// Makes a shape what an instruction leaves of it, if it leaves any.
 #[tactic(auto, unfolding(crate::specs::Effects::left))]
 pub(crate) fn leave(
+    descriptors: &Descriptors,
     class: &Class,
     most: usize,
     row: &OpRow,
@@ -112,12 +118,13 @@ pub(crate) fn leave(
     shape: &mut Shape,
     uses: &mut Use,
 ) -> Result<bool, AllocError>
+    requires { descriptors.now ≡ descriptors_of class.now.pool }
     ensures { IfOk result (λ is_there. MatchBool is_there (left class.now most row.now instr.now shape.old ≡ Some shape.new) (left class.now most row.now instr.now shape.old ≡ None)) }
 {
     if !change_locals(row, instr, &mut shape.locals)? {
         return Ok(false);
     }
-    if !change_stack(class, row, instr, &mut shape.stack, uses)? {
+    if !change_stack(descriptors, class, row, instr, &mut shape.stack, uses)? {
         return Ok(false);
     }
     Ok(shape.stack.len() <= most)

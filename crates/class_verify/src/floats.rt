@@ -1,66 +1,74 @@
 //! Which instructions use floats or doubles (JVMS 6.5, 4.4).
 
-ghost use Rattle.std.specs.Prelude.{◌≡◌, ◌==◌, ◌&&◌};
+ghost use Rattle.std.specs.Prelude.{◌≡◌, ◌==◌, ◌&&◌, option_copied};
 ghost use Rattle.std.specs.List.{list_any};
 ghost use Rattle.class_model.specs.Constants.{text_at, constant_at, is_some_that};
 ghost use Rattle.class_code.specs.Types.{has_float};
 ghost use Rattle.class_code.specs.Constants.{descriptor_at, descriptor_named};
+ghost use Rattle.class_code.specs.Descriptors.{descriptors_of};
 ghost use Rattle.class_verify.specs.Floats.{is_float_array, reference_has_float, is_float_load, is_float_constant, class_has_float, has_float_arguments, constant_has_float, makes_floats, uses_float};
+ghost use Rattle.class_verify.specs.ConstantTables.{AreTables};
 
+use crate::constant_tables::ConstantTables;
 use class_code::{
-    constant_of, descriptor_at, descriptor_named, dimensions_of, has_float, known_arguments,
-    number_of,
+    Descriptors, Told, constant_of, dimensions_of, flag_of, known_arguments, number_of, told_at,
+    told_of_named, told_of_type,
 };
 use class_model::{Class, Constant, Pool};
 use jvm_tables::{ConstantUse, Instr, OpRow, Operation};
 
-/// An array of floats or doubles has its descriptor as name; in the name of any other class letters are no types.
-fn is_float_array(name: &[u8]) -> bool
-    ensures { result ≡ is_float_array name.now }
+fn says_float(told: Option<&Told>) -> bool
+    ensures { result ≡ is_some_that (λ t. t.has_float) (option_copied told.entry) }
 {
-    dimensions_of(name) > 0 && has_float(name)
+    match told {
+        Some(told) => told.has_float,
+        None => false,
+    }
 }
 
-fn text_is_float_array(pool: &Pool, name: u16) -> bool
+#[tactic(auto, using(crate::proofs::FloatTables::float_told))]
+fn text_has_float(descriptors: &Descriptors, pool: &Pool, descriptor: u16) -> bool
+    requires { descriptors.now ≡ descriptors_of pool.now }
+    ensures { result ≡ is_some_that has_float (text_at pool.now descriptor) }
+{
+    says_float(told_at(descriptors, pool, descriptor))
+}
+
+/// An array of floats or doubles has its descriptor as name; in the name of any other class letters are no types.
+fn text_is_float_array(descriptors: &Descriptors, pool: &Pool, name: u16) -> bool
+    requires { descriptors.now ≡ descriptors_of pool.now }
     ensures { result ≡ is_some_that is_float_array (text_at pool.now name) }
 {
     match pool.text(name) {
-        Some(text) => is_float_array(text),
+        Some(text) => dimensions_of(text) > 0 && text_has_float(descriptors, pool, name),
         None => false,
     }
 }
 
-fn text_has_float(pool: &Pool, descriptor: u16) -> bool
-    ensures { result ≡ is_some_that has_float (text_at pool.now descriptor) }
-{
-    match pool.text(descriptor) {
-        Some(text) => has_float(text),
-        None => false,
-    }
-}
-
-fn reference_has_float(pool: &Pool, reference: u16) -> bool
+#[tactic(auto, using(crate::proofs::FloatTables::float_told))]
+fn reference_has_float(descriptors: &Descriptors, pool: &Pool, reference: u16) -> bool
+    requires { descriptors.now ≡ descriptors_of pool.now }
     ensures { result ≡ is_some_that (reference_has_float pool.now) (constant_at pool.now reference) }
 {
     match pool.constant(reference) {
-        Some(Constant::Ref { name_type, .. }) => match descriptor_at(pool, *name_type) {
-            Some(descriptor) => has_float(descriptor),
-            None => false,
-        },
+        Some(Constant::Ref { name_type, .. }) => {
+            says_float(told_of_type(descriptors, pool, *name_type))
+        }
         _ => false,
     }
 }
 
 /// Whether a constant that is loaded, by an instruction or as a static argument of a call site, is a float or has one
 /// in its descriptor.
-fn is_float_load(pool: &Pool, constant: &Constant) -> bool
+fn is_float_load(descriptors: &Descriptors, pool: &Pool, constant: &Constant) -> bool
+    requires { descriptors.now ≡ descriptors_of pool.now }
     ensures { result ≡ is_float_load pool.now constant.now }
 {
     match constant {
         Constant::Float(_) | Constant::Double(_) => true,
-        Constant::Class(name) => text_is_float_array(pool, *name),
-        Constant::Handle { reference, .. } => reference_has_float(pool, *reference),
-        Constant::MethodType(descriptor) => text_has_float(pool, *descriptor),
+        Constant::Class(name) => text_is_float_array(descriptors, pool, *name),
+        Constant::Handle { reference, .. } => reference_has_float(descriptors, pool, *reference),
+        Constant::MethodType(descriptor) => text_has_float(descriptors, pool, *descriptor),
         _ => false,
     }
 }
@@ -71,68 +79,88 @@ fn is_float_constant(constant: &Constant) -> bool
     matches!(constant, Constant::Float(_) | Constant::Double(_))
 }
 
-fn class_has_float(pool: &Pool, constant: &Constant) -> bool
+fn class_has_float(descriptors: &Descriptors, pool: &Pool, constant: &Constant) -> bool
+    requires { descriptors.now ≡ descriptors_of pool.now }
     ensures { result ≡ class_has_float pool.now constant.now }
 {
     match constant {
-        Constant::Class(name) => text_is_float_array(pool, *name),
+        Constant::Class(name) => text_is_float_array(descriptors, pool, *name),
         _ => false,
     }
 }
 
-fn loads_float(pool: &Pool, number: u16) -> bool
+fn loads_float(descriptors: &Descriptors, pool: &Pool, number: u16) -> bool
+    requires { descriptors.now ≡ descriptors_of pool.now }
     ensures { result ≡ is_some_that (is_float_load pool.now) (constant_at pool.now number) }
 {
     match pool.constant(number) {
-        Some(constant) => is_float_load(pool, constant),
+        Some(constant) => is_float_load(descriptors, pool, constant),
         None => false,
     }
 }
 
-fn any_loads_float(pool: &Pool, numbers: &[u16]) -> bool
+fn any_loads_float(descriptors: &Descriptors, pool: &Pool, numbers: &[u16]) -> bool
+    requires { descriptors.now ≡ descriptors_of pool.now }
     ensures { result ≡ list_any (λ n. is_some_that (is_float_load pool.now) (constant_at pool.now n)) numbers.now }
 {
     for number in numbers {
-        if loads_float(pool, *number) {
+        if loads_float(descriptors, pool, *number) {
             return true;
         }
     }
     false
 }
 
-fn has_float_arguments(class: &Class, constant: &Constant) -> bool
+pub(crate) fn has_float_arguments(
+    descriptors: &Descriptors,
+    class: &Class,
+    constant: &Constant,
+) -> bool
+    requires { descriptors.now ≡ descriptors_of class.now.pool }
     ensures { result ≡ has_float_arguments class.now constant.now }
 {
     match constant {
         Constant::InvokeDynamic { bootstrap, .. } => {
-            any_loads_float(&class.pool, known_arguments(class, *bootstrap))
+            let arguments = known_arguments(class, *bootstrap);
+            any_loads_float(descriptors, &class.pool, arguments)
         }
         _ => false,
     }
 }
 
-fn named_has_float(named: ConstantUse, pool: &Pool, constant: &Constant) -> bool
+#[tactic(auto, using(crate::proofs::FloatTables::float_told))]
+fn named_has_float(
+    descriptors: &Descriptors,
+    named: ConstantUse,
+    pool: &Pool,
+    constant: &Constant,
+) -> bool
+    requires { descriptors.now ≡ descriptors_of pool.now }
     ensures { result ≡ is_some_that has_float (descriptor_named named pool.now constant.now) }
 {
-    match descriptor_named(named, pool, constant) {
-        Some(descriptor) => has_float(descriptor),
-        None => false,
-    }
+    says_float(told_of_named(descriptors, named, pool, constant))
 }
 
-fn constant_has_float(named: ConstantUse, class: &Class, constant: &Constant) -> bool
+fn constant_has_float(
+    descriptors: &Descriptors,
+    named: ConstantUse,
+    class: &Class,
+    constant: &Constant,
+    arguments: bool,
+) -> bool
+    requires told { descriptors.now ≡ descriptors_of class.now.pool }
+    requires arguments { arguments ≡ has_float_arguments class.now constant.now }
     ensures { result ≡ constant_has_float named class.now constant.now }
 {
     match named {
         ConstantUse::Nothing => false,
-        ConstantUse::Loadable => is_float_load(&class.pool, constant),
+        ConstantUse::Loadable => is_float_load(descriptors, &class.pool, constant),
         ConstantUse::LoadableLong => is_float_constant(constant),
-        ConstantUse::Class => class_has_float(&class.pool, constant),
+        ConstantUse::Class => class_has_float(descriptors, &class.pool, constant),
         ConstantUse::CallSite => {
-            named_has_float(ConstantUse::CallSite, &class.pool, constant)
-                || has_float_arguments(class, constant)
+            named_has_float(descriptors, ConstantUse::CallSite, &class.pool, constant) || arguments
         }
-        _ => named_has_float(named, &class.pool, constant),
+        _ => named_has_float(descriptors, named, &class.pool, constant),
     }
 }
 
@@ -149,8 +177,9 @@ fn makes_floats(operation: Operation, code: usize) -> bool
 /// or in a descriptor that it uses. The descriptors are those of the field, the method or the call site that it names,
 /// of a method type or a method handle that it loads, and of an array class that it names, but not as the owner of a
 /// member. The static arguments of a call site count where its bootstrap method is one that is known.
-#[tactic(auto, unfolding(crate::specs::Floats::uses_float))]
-pub fn uses_float(class: &Class, row: &OpRow, instr: &Instr) -> bool
+#[tactic(auto, using(crate::proofs::FloatTables::arguments_flagged), unfolding(crate::specs::Floats::uses_float))]
+pub fn uses_float(tables: &ConstantTables, class: &Class, row: &OpRow, instr: &Instr) -> bool
+    requires { AreTables class.now tables.now }
     ensures { result ≡ uses_float class.now row.now instr.now }
 {
     if row.is_float {
@@ -160,7 +189,16 @@ pub fn uses_float(class: &Class, row: &OpRow, instr: &Instr) -> bool
         return true;
     }
     match constant_of(class, instr) {
-        Some(constant) => constant_has_float(row.constant, class, constant),
+        Some(constant) => {
+            let arguments = flag_of(&tables.float_arguments, instr);
+            constant_has_float(
+                &tables.descriptors,
+                row.constant,
+                class,
+                constant,
+                arguments,
+            )
+        }
         None => false,
     }
 }

@@ -4,6 +4,7 @@
 
 mod body;
 mod cause;
+mod constant_tables;
 mod effects;
 mod fault;
 mod floats;
@@ -20,6 +21,7 @@ mod verification;
 mod walk;
 
 pub use cause::Cause;
+pub use constant_tables::{ConstantTables, tables_of};
 pub use fault::VerifyFault;
 pub use floats::uses_float;
 pub use frames::{Limits, Written};

@@ -13,11 +13,13 @@ ghost use Rattle.class_verify.specs.Bodies.{first_point};
 ghost use Rattle.class_verify.specs.Walks.{IsWalked, IsLeastStray, earlier};
 ghost use Rattle.class_verify.specs.Ready.{IsReady, plain, seen};
 ghost use Rattle.class_verify.specs.Sweeps.{IsFresh};
+ghost use Rattle.class_verify.specs.ConstantTables.{AreTables};
 ghost use Rattle.class_code.specs.Types.{result_kind};
 ghost use Rattle.class_verify.specs.Verified.{fault_of, body_of, CodeFits, MethodFits, Fits, IsMethodMisfit, IsNamed, IsRefusal, IsMisfitIn, IsMisfitOf};
 
 use crate::body::{Body, Spot};
 use crate::cause::Cause;
+use crate::constant_tables::{ConstantTables, tables_of};
 use crate::fault::VerifyFault;
 use crate::frames::{Limits, Written, frames_of, shape_of, types_of};
 use crate::locals::Locals;
@@ -25,8 +27,8 @@ use crate::places::{framed, marks_of};
 use crate::shape::Shape;
 use crate::stack::Stack;
 use crate::sweep::Sweep;
-use crate::walk::{Buffers, least_stray, walk};
-use class_code::{CodeView, SiteKinds, Use, code_of, has_float, read_kinds, stack_map};
+use crate::walk::{least_stray, walk};
+use class_code::{CodeView, Use, code_of, has_float, read_kinds, stack_map};
 use class_index::Index;
 use class_model::{Attribute, Class, Handler, Member, MethodId, Name, Pool, StackFrame};
 use jvm_tables::ValueKind;
@@ -91,9 +93,11 @@ fn shapes(
 fn body<'a>(
     alloc: Global,
     class: &'a Class,
+    tables: &'a ConstantTables,
     method: &Member,
     code: CodeView<'a>,
 ) -> Result<Body<'a>, AllocError>
+    requires tables { AreTables class.now tables.now }
     requires some { 0 < length code.code.now }
     requires short { length code.code.now ≤ 65535 }
     requires frames { length (stack_map_in code.attributes.now) < 2 ^ 16 }
@@ -111,6 +115,7 @@ fn body<'a>(
     let framed = framed(alloc, code.code, frames.as_slice())?;
     Ok(Body {
         class,
+        tables,
         result: result_kind,
         limits,
         code: code.code,
@@ -170,13 +175,13 @@ fn earlier(found: Option<(u32, Cause)>, stray: Option<u32>) -> Option<(u32, Caus
 fn first_misfit(
     alloc: Global,
     body: &Body<'_>,
-    buffers: &mut Buffers,
+    uses: &mut Use,
 ) -> Result<Option<(u32, Cause)>, AllocError>
     requires { IsReady body.now }
     ensures { IfOk result (λ found. MatchOption found (BodyFits (plain body.now)) (λ m. IsFirstMisfit (plain body.now) m.0 m.1)) }
 {
     let mut spot = first_spot(alloc, body)?;
-    let found = walk(body, &mut spot, buffers)?;
+    let found = walk(body, &mut spot, uses)?;
     Ok(earlier(found, least_stray(body)))
 }
 
@@ -184,10 +189,12 @@ fn first_misfit(
 pub(crate) fn code_misfit(
     alloc: Global,
     class: &Class,
+    tables: &ConstantTables,
     method: &Member,
     code: CodeView<'_>,
-    buffers: &mut Buffers,
+    uses: &mut Use,
 ) -> Result<Option<(u32, Cause)>, AllocError>
+    requires tables { AreTables class.now tables.now }
     requires code { code_in method.now.attributes ≡ Some (parts code) }
     requires some { 0 < length code.code.now }
     requires short { length code.code.now ≤ 65535 }
@@ -197,22 +204,24 @@ pub(crate) fn code_misfit(
     if has_float(text_of(&class.pool, method.descriptor)) {
         return Ok(Some((0, Cause::FloatUsed)));
     }
-    let body = body(alloc, class, method, code)?;
-    first_misfit(alloc, &body, buffers)
+    let body = body(alloc, class, tables, method, code)?;
+    first_misfit(alloc, &body, uses)
 }
 
 /// The first misfit of a method.
 fn method_misfit(
     alloc: Global,
     class: &Class,
+    tables: &ConstantTables,
     method: &Member,
-    buffers: &mut Buffers,
+    uses: &mut Use,
 ) -> Result<Option<(u32, Cause)>, AllocError>
-    requires { IsMethod class.now.pool method.now }
+    requires tables { AreTables class.now tables.now }
+    requires method { IsMethod class.now.pool method.now }
     ensures { IfOk result (λ found. MatchOption found (MethodFits class.now method.now) (λ m. IsMethodMisfit class.now method.now m.0 m.1)) }
 {
     match code_of(method.attributes.as_slice()) {
-        Some(code) => code_misfit(alloc, class, method, code, buffers),
+        Some(code) => code_misfit(alloc, class, tables, method, code, uses),
         None => Ok(None),
     }
 }
@@ -260,16 +269,18 @@ fn refusal(alloc: Global, class: &Class, method: &Member, pc: u32, cause: Cause)
 fn verify_methods(
     alloc: Global,
     class: &Class,
+    tables: &ConstantTables,
     methods: &[Member],
-    buffers: &mut Buffers,
+    uses: &mut Use,
 ) -> Result<(), VerifyFault>
     requires class { Shaped class.now }
+    requires tables { AreTables class.now tables.now }
     requires methods { All (IsMethod class.now.pool) methods.now }
     ensures ok { OnOk result (All (MethodFits class.now) methods.now) }
     ensures fault { IfErr result (λ fault. IsMisfitIn class.now methods.now fault) }
 {
     for method in methods {
-        let found = method_misfit(alloc, class, method, buffers)?;
+        let found = method_misfit(alloc, class, tables, method, uses)?;
         if let Some((pc, cause)) = found {
             return Err(refusal(alloc, class, method, pc, cause));
         }
@@ -286,9 +297,7 @@ pub fn verify(alloc: Global, _index: &Index, class: &Class) -> Result<(), Verify
     ensures only { Fits class.now → IsOkUnless result VerifyFault.Memory }
     ensures fault { IfErr result (λ fault. IsMisfitOf class.now fault) }
 {
-    let mut buffers = Buffers {
-        uses: Use::new(alloc),
-        sites: SiteKinds::new(alloc),
-    };
-    verify_methods(alloc, class, class.methods.as_slice(), &mut buffers)
+    let tables = tables_of(alloc, class)?;
+    let mut uses = Use::new(alloc);
+    verify_methods(alloc, class, &tables, class.methods.as_slice(), &mut uses)
 }

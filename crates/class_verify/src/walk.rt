@@ -24,16 +24,9 @@ use crate::frames::Written;
 use crate::places::place_behind;
 use crate::shape::Shape;
 use crate::sweep::Sweep;
-use class_code::{SiteKinds, Use};
+use class_code::{Use, has_unknown_site};
 use jvm_tables::{CodeFault, Flow, Instr, OpRow, decode, op_row};
 use std::alloc::AllocError;
-
-/// Lists that are used again at each instruction.
-#[derive(Drop)]
-pub(crate) struct Buffers {
-    pub uses: Use,
-    pub sites: SiteKinds,
-}
 
 fn with_row(instr: Instr) -> Result<(Instr, OpRow), Cause>
     ensures { result ≡ with_row instr (row_of instr.op) }
@@ -64,21 +57,16 @@ fn decoded(code: &[u8], pc: usize) -> Result<(Instr, OpRow), Cause>
 
 /// Looks for a cause in what an instruction names.
 #[tactic(auto, unfolding(crate::specs::Misfits::named_cause))]
-fn check_names(
-    body: &Body<'_>,
-    instr: &Instr,
-    row: &OpRow,
-    sites: &mut SiteKinds,
-) -> Result<(), Stop>
+fn check_names(body: &Body<'_>, instr: &Instr, row: &OpRow) -> Result<(), Stop>
     requires ready { IsReady body.now }
     requires decoded { decoding instr.now.pc (drop instr.now.pc body.now.code.now) ≡ Ok instr.now }
     ensures { MatchResult result (λ _. named_cause (plain body.now) instr.now.pc instr.now row.now ≡ None)
         (λ stop. StopsBy (named_cause (plain body.now) instr.now.pc instr.now row.now) stop) }
 {
-    if uses_float(body.class, row, instr) || body.has_float_frame(instr.pc as usize) {
+    if uses_float(body.tables, body.class, row, instr) || body.has_float_frame(instr.pc as usize) {
         return Err(Stop::Misfit(Cause::FloatUsed));
     }
-    if sites.has_unknown_site(body.class, row, instr)? {
+    if has_unknown_site(&body.tables.unknown_sites, body.class, row, instr) {
         return Err(Stop::Misfit(Cause::UnknownBootstrap));
     }
     if !body.targets_begin(row.flow, instr) {
@@ -143,7 +131,16 @@ fn check_shape(
     if !sweep.all_catch(body, instr.pc as usize, &shape.locals)? {
         return Ok(false);
     }
-    if !leave(body.class, body.limits.stack, row, instr, shape, uses)? {
+    let descriptors = &body.tables.descriptors;
+    if !leave(
+        descriptors,
+        body.class,
+        body.limits.stack,
+        row,
+        instr,
+        shape,
+        uses,
+    )? {
         return Ok(false);
     }
     sweep.follow(row.writes);
@@ -157,7 +154,7 @@ fn check(
     instr: &Instr,
     row: &OpRow,
     spot: &mut Spot,
-    buffers: &mut Buffers,
+    uses: &mut Use,
 ) -> Result<(), Stop>
     requires ready { IsReady body.now }
     requires decoded { decoding instr.now.pc (drop instr.now.pc body.now.code.now) ≡ Ok instr.now }
@@ -170,11 +167,10 @@ fn check(
         (λ stop. StopsBy (cause_of (plain body.now) (seen spot.old) instr.now row.now) stop) }
     ensures left { OnOk result (option_and_then (left body.now.class.now body.now.limits.stack row.now instr.now) (shape_before (plain body.now) (seen spot.old)) ≡ Some spot.new.shape) }
 {
-    check_names(body, instr, row, &mut buffers.sites)?;
+    check_names(body, instr, row)?;
     if !enter(body, spot)? {
         return Err(Stop::Misfit(Cause::BadFrame));
     }
-    let uses = &mut buffers.uses;
     if !check_shape(body, instr, row, &mut spot.shape, &mut spot.sweep, uses)? {
         return Err(Stop::Misfit(Cause::BadFrame));
     }
@@ -189,7 +185,7 @@ fn falls(flow: Flow) -> bool
 
 /// Looks for a cause at an instruction, and goes on to the next one, if there is one.
 #[tactic(auto, unfolding(crate::specs::Misfits::cause_at, crate::specs::Bodies::following))]
-fn step(body: &Body<'_>, spot: &mut Spot, buffers: &mut Buffers) -> Result<bool, Stop>
+fn step(body: &Body<'_>, spot: &mut Spot, uses: &mut Use) -> Result<bool, Stop>
     requires ready { IsReady body.now }
     requires within { spot.old.pc < length body.now.code.now }
     requires met { IsMet (plain body.now) spot.old.sweep spot.old.pc spot.old.shape.locals }
@@ -205,7 +201,7 @@ fn step(body: &Body<'_>, spot: &mut Spot, buffers: &mut Buffers) -> Result<bool,
         Ok(found) => found,
         Err(cause) => return Err(Stop::Misfit(cause)),
     };
-    check(body, &instr, &row, spot, buffers)?;
+    check(body, &instr, &row, spot, uses)?;
     match place_behind(body.code, spot.pc, &instr) {
         Some(pc) => {
             spot.pc = pc;
@@ -229,7 +225,7 @@ fn cause_in(stop: Stop) -> Result<Cause, AllocError>
 pub(crate) fn walk(
     body: &Body<'_>,
     spot: &mut Spot,
-    buffers: &mut Buffers,
+    uses: &mut Use,
 ) -> Result<Option<(u32, Cause)>, AllocError>
     requires ready { IsReady body.now }
     requires first { seen spot.old ≡ first_point (plain body.now) }
@@ -237,7 +233,7 @@ pub(crate) fn walk(
     ensures { IfOk result (λ found. IsWalked (plain body.now) found) }
 {
     'points: loop {
-        match step(body, spot, buffers) {
+        match step(body, spot, uses) {
             Ok(true) => {}
             Ok(false) => return Ok(None),
             Err(stop) => return Ok(Some((spot.pc as u32, cause_in(stop)?))),

@@ -14,5 +14,5 @@ pub code_misfit-requires : goal.code_misfit-requires
 code_misfit-requires c =
     let there : code_in c.args.method.now.attributes ≡ Some (parts c.in-Some.code) =
     ap code_in (sym c.as_slice.ensures) ∙ sym c.code_of.ensures ∙ ap (option_map parts) c.in-Some.is in
-    let sized = code_in-IsSized c.args.class.now.pool c.args.method.now (parts c.in-Some.code) c.requires there in
-    record { code = there; some = sized.some; short = sized.short; frames = sized.frames }
+    let sized = code_in-IsSized c.args.class.now.pool c.args.method.now (parts c.in-Some.code) c.requires.method there in
+    record { tables = c.requires.tables; code = there; some = sized.some; short = sized.short; frames = sized.frames }
