@@ -15,6 +15,7 @@ pub mod Padding
 pub mod PairedLocals
 pub mod PairedStacks
 pub mod Points
+pub mod Pruning
 pub mod Safe
 pub mod Sizes
 pub mod Slots

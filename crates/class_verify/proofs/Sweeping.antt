@@ -19,7 +19,7 @@ use Rattle.class_verify.specs.declared.kinds.Kind.{Kind}
 use Rattle.class_verify.specs.declared.sweep.Sweep.{Sweep}
 use Rattle.class_verify.specs.Bodies.{Body}
 use Rattle.class_verify.specs.Frames.{frame_at}
-use Rattle.class_verify.specs.Sweeps.{is_kept, begins_by, IsSwept, IsMet, IsSettled, IsFresh}
+use Rattle.class_verify.specs.Sweeps.{is_kept, begins_by, IsSwept, Swept, IsMet, IsSettled, IsFresh}
 use Rattle.class_verify.specs.Effects.{left, limited, locals_after, is_read, with_store, stack_after}
 use Rattle.class_code.specs.Control.{covers}
 use Rattle.class_code.specs.Operands.{local_of}
@@ -152,12 +152,12 @@ refused body s pc locals h m next on fails =
     (uncaught body.code body.frames pc locals h there.1 on fails)
 
 -- where one that goes on isn't accepted
-pub going_refuses : (body : Body) (s : Sweep) (pc : ℕ) (locals : List Kind) → IsMet body s pc locals
+pub going_refuses : (body : Body) (s : Sweep) (pc : ℕ) (locals : List Kind) → Swept body s pc
     → list_all (is_kept body.code body.frames pc locals) s.going.items ≡ false → list_all (catches body.code body.frames pc locals) body.table ≡ false
 going_refuses body s pc locals m e =
     let one : (h : Handler) × Contains s.going.items h × (is_kept body.code body.frames pc locals h ≡ false) =
     list_all_one_fails (is_kept body.code body.frames pc locals) s.going.items e in
-    let from : Contains body.table one.0 × (one.0.start ≤ pc) = m.swept.from one.0 one.1 in
+    let from : Contains body.table one.0 × (one.0.start ≤ pc) = m.from one.0 one.1 in
     list_all_fails (catches body.code body.frames pc locals) body.table one.0 from.0
     (elim (cases_lt pc one.0.end) [
       | inl on ↦
@@ -210,10 +210,6 @@ all_caught body s pc locals m none =
     (λ h c. caught_by body.code body.frames pc locals h
     (λ began on. list_all_each (is_kept body.code body.frames pc locals) s.going.items h m.kept
     (is_going body.table s.ranges.items s.begun s.going.items pc h m.swept none c began on)))
-
-pub settled : (body : Body) (s : Sweep) (pc : ℕ) (locals : List Kind) → IsMet body s pc locals
-    → list_all (is_kept body.code body.frames pc locals) s.going.items ≡ true → IsSettled body s pc locals
-settled body s pc locals m k = record { swept = m.swept; kept = k }
 
 pub settled_still : (body : Body) (s : Sweep) (pc : ℕ) (locals : List Kind) → IsMet body s pc locals → s.is_settled ≡ true → IsSettled body s pc locals
 settled_still body s pc locals m e = record { swept = m.swept; kept = m.kept e }

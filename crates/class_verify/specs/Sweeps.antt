@@ -14,6 +14,10 @@ use Rattle.class_verify.specs.Targets.{is_caught}
 abbrev pub is_kept : List ℕ → List Written → ℕ → List Kind → Handler → Bool
 is_kept code frames pc locals h = not (nat_lt pc h.end) || is_caught locals (frame_at code frames h.handler)
 
+-- a range doesn't end by a pc
+abbrev pub goes_on : ℕ → Handler → Bool
+goes_on pc h = nat_lt pc h.end
+
 -- the next range, if it begins by a pc
 abbrev pub begins_by : ℕ → Option Handler → Option Handler
 begins_by pc None = None

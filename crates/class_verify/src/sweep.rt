@@ -3,9 +3,9 @@
 
 ghost use Rattle.std.specs.Prelude.{◌≡◌, ◌+◌, Some, false, IfOk, MatchBool, is_none, slice_get};
 ghost use Rattle.std.specs.Bool.{OnTrue};
-ghost use Rattle.std.specs.List.{list_all};
+ghost use Rattle.std.specs.List.{filter, list_all};
 ghost use Rattle.class_verify.specs.Ready.{IsReady, plain};
-ghost use Rattle.class_verify.specs.Sweeps.{begins_by, is_kept, IsMet, IsSettled, IsFresh};
+ghost use Rattle.class_verify.specs.Sweeps.{goes_on, begins_by, is_kept, IsMet, IsSettled, IsFresh};
 ghost use Rattle.class_verify.specs.Targets.{catches};
 
 use crate::body::Body;
@@ -67,6 +67,31 @@ impl Sweep {
             .all(|range| body.is_kept(pc, locals, range))
     }
 
+    /// Forgets the ranges that ended by a pc.
+    fn prune(&mut self, pc: usize)
+        ensures going { self.new.going.items ≡ filter (goes_on pc) self.old.going.items }
+        ensures ranges { self.new.ranges ≡ self.old.ranges }
+        ensures begun { self.new.begun ≡ self.old.begun }
+    {
+        self.going.retain(|range| pc < usize::from(range.end));
+    }
+
+    /// Whether the handlers of all that are going on accept the locals, which were changed unless they are settled.
+    /// Those that ended are looked at no more.
+    #[tactic(auto, using(crate::proofs::Sweeping::settled_still))]
+    fn settle(&mut self, body: &Body<'_>, pc: usize, locals: &Locals) -> bool
+        requires ready { IsReady body.now }
+        requires met { IsMet (plain body.now) self.old pc locals.now }
+        ensures { MatchBool result (IsSettled (plain body.now) self.new pc locals.now)
+            (list_all (catches body.now.code.now body.now.frames pc locals.now) body.now.table.now ≡ false) }
+    {
+        if self.is_settled {
+            return true;
+        }
+        self.prune(pc);
+        self.all_keep(body, pc, locals)
+    }
+
     /// Goes on to a range that begins, if its handler accepts the locals.
     #[tactic(auto, using(crate::proofs::Sweeping::passed_over))]
     fn admit(
@@ -111,7 +136,6 @@ impl Sweep {
     }
 
     /// Whether each handler whose range has the pc accepts the locals.
-    #[tactic(auto, using(crate::proofs::Sweeping::settled, crate::proofs::Sweeping::settled_still))]
     pub fn all_catch(
         &mut self,
         body: &Body<'_>,
@@ -123,7 +147,7 @@ impl Sweep {
         ensures caught { IfOk result (λ is_caught. is_caught ≡ list_all (catches body.now.code.now body.now.frames pc locals.now) body.now.table.now) }
         ensures met { IfOk result (λ is_caught. OnTrue is_caught (IsSettled (plain body.now) self.new pc locals.now)) }
     {
-        if !self.is_settled && !self.all_keep(body, pc, locals) {
+        if !self.settle(body, pc, locals) {
             return Ok(false);
         }
         self.begin(body, pc, locals)
