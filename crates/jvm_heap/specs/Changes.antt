@@ -1,5 +1,5 @@
 -- How objects change after they are made, and what the calls ensure that make, grow and change them.
-use Rattle.std.specs.Prelude.{◌≡◌, ℕ, suc, ℤ, nat_lt, List, [], ◌∷◌, ◌++◌, length, slice_set, Option, Some, None, option_and_then, option_map, if◌then◌else◌, Result, IfOk, OnOk, OnErr, IsErrOf, ◌↔◌}
+use Rattle.std.specs.Prelude.{◌≡◌, ℕ, ℤ, nat_lt, List, [], ◌∷◌, ◌++◌, length, slice_set, Option, Some, None, option_and_then, option_map, if◌then◌else◌, Result, IfOk, OnOk, OnErr, IsErrOf, ◌↔◌, IsSome}
 use Rattle.jvm_heap.specs.declared.fault.HeapFault.{HeapFault}
 use Rattle.jvm_heap.specs.declared.fault.HeapFault.TheVariants as faults
 use Rattle.jvm_heap.specs.Objects.{Object, throwable, enumerated, listed, builder, iterator}
@@ -21,10 +21,10 @@ abbrev pub with_units : {C S : Type 0} → List ℕ → Object C S → Option (O
 with_units units (builder built) = Some (builder (built ++ units))
 with_units units _ = None
 
--- an iterator one element further
-abbrev pub with_next : {C S : Type 0} → Object C S → Option (Object C S)
-with_next (iterator list next) = Some (iterator list (suc next))
-with_next _ = None
+-- an iterator at another element
+abbrev pub with_next : {C S : Type 0} → ℕ → Object C S → Option (Object C S)
+with_next next (iterator list old_next) = Some (iterator list next)
+with_next next _ = None
 
 -- a throwable with its message and its cause, and an enum with its name and its ordinal
 abbrev pub with_message : {C S : Type 0} → ℕ → ℕ → Object C S → Option (Object C S)
@@ -34,6 +34,10 @@ with_message message cause _ = None
 abbrev pub with_name : {C S : Type 0} → ℕ → ℤ → Object C S → Option (Object C S)
 with_name name ordinal (enumerated class fields old_name old_ordinal) = Some (enumerated class fields name ordinal)
 with_name name ordinal _ = None
+
+-- there is an object of a number that has such a change
+abbrev pub CanChange : {C S : Type 0} → (Object C S → Option (Object C S)) → ℕ → Heap C S → Type 0
+CanChange change n h = IsSome (option_and_then change (object_at n h))
 
 -- The object of a number changed. None where there is none, or none of that kind.
 unfoldable pub changed : {C S : Type 0} → (Object C S → Option (Object C S)) → ℕ → Heap C S → Option (Heap C S)

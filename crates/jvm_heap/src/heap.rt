@@ -1,9 +1,9 @@
 //! The heap.
 
-ghost use Rattle.std.specs.Prelude.{◌≡◌, ◌+◌, ◌<◌, ◌≤◌, nat_le, IsSome, Some, length, sum_by};
+ghost use Rattle.std.specs.Prelude.{◌≡◌, suc, ◌+◌, ◌<◌, ◌≤◌, nat_le, IsSome, Some, length, sum_by};
 ghost use Rattle.std.specs.Option.{option_copied};
 ghost use Rattle.jvm_heap.specs.Objects.{cells_of};
-ghost use Rattle.jvm_heap.specs.Heaps.{empty, most_cells, object_at, allocated, slot_at};
+ghost use Rattle.jvm_heap.specs.Heaps.{empty, most_cells, object_at, allocated, slot_at, with_slot};
 ghost use Rattle.jvm_heap.specs.Changes.{Makes};
 
 use crate::fault::HeapFault;
@@ -76,6 +76,11 @@ impl Heap {
         self.cells
     }
 
+    /// The allocator that its objects are made with.
+    pub(crate) fn allocator(&self) -> Global {
+        *self.objects.allocator()
+    }
+
     pub(crate) fn has_room(&self, more: u64) -> bool
         ensures { result ≡ nat_le (self.now.cells + more) most_cells }
     {
@@ -121,5 +126,24 @@ impl Heap {
             Some(found) => found.slots()[field as usize],
             None => Slot::Top,
         }
+    }
+
+    // The place of an object in the list of all.
+    pub(crate) fn place(&self, number: u32) -> usize
+        requires { IsSome (object_at number self.now) }
+        ensures next { number ≡ suc result }
+        ensures within { result < length self.now.objects }
+    {
+        number as usize - 1
+    }
+
+    /// Writes a field, an element or a captured value. It takes no memory.
+    #[tactic(auto, unfolding(crate::specs::Heaps::slot_at))]
+    pub fn set(&mut self, object: u32, field: u32, slot: Slot)
+        requires { IsSome (slot_at object field self.old) }
+        ensures { with_slot object field slot self.old ≡ Some self.new }
+    {
+        let at = self.place(object);
+        self.objects[at].set_slot(field as usize, slot);
     }
 }

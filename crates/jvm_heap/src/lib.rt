@@ -4,11 +4,13 @@
 #![tactic(auto)]
 
 mod array_kind;
+mod changing;
 mod content;
 mod fault;
 mod frame;
 mod heap;
 mod kept;
+mod making;
 mod object;
 mod operands;
 mod slot;

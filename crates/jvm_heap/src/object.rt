@@ -1,12 +1,14 @@
 //! Objects.
 
-ghost use Rattle.std.specs.Prelude.{◌≡◌, ◌<◌, length};
+ghost use Rattle.std.specs.Prelude.{◌≡◌, ◌<◌, ◌+◌, Some, IsSome, OnOk, OnErr, length, slice_set};
 ghost use Rattle.jvm_heap.specs.Objects.{cells_of};
-ghost use Rattle.jvm_heap.specs.Heaps.{slots_of};
+ghost use Rattle.jvm_heap.specs.Heaps.{slots_of, with_slots};
 ghost use Rattle.jvm_heap.specs.Contents.{shown};
+ghost use Rattle.jvm_heap.specs.Changes.{with_last, with_units, with_element, with_next, with_message, with_name};
 
 use crate::content::Content;
 use crate::slot::Slot;
+use std::alloc::AllocError;
 use std::marker::Model;
 
 /// An object of the heap (JVMS 2.7).
@@ -71,6 +73,97 @@ impl Object {
             Content::Array { elements, .. } => elements.as_slice(),
             Content::Lambda { captured, .. } => captured.as_slice(),
             _ => &[],
+        }
+    }
+
+    pub(crate) fn set_slot(&mut self, place: usize, slot: Slot)
+        requires { place < length (slots_of self.old) }
+        ensures { self.new ≡ with_slots self.old (slice_set (slots_of self.old) place slot) }
+    {
+        match &mut self.content {
+            Content::Plain { fields, .. } => fields.set(place, slot),
+            Content::Throwable { fields, .. } => fields.set(place, slot),
+            Content::Enumerated { fields, .. } => fields.set(place, slot),
+            Content::Array { elements, .. } => elements.set(place, slot),
+            Content::Lambda { captured, .. } => captured.set(place, slot),
+            _ => {}
+        }
+    }
+
+    /// Puts an element at the end of a list.
+    pub(crate) fn add(&mut self, element: u32) -> Result<(), AllocError>
+        requires { IsSome (with_last element self.old) }
+        ensures ok { OnOk result (with_last element self.old ≡ Some self.new) }
+        ensures cells { OnOk result (cells_of self.new ≡ cells_of self.old + 1) }
+        ensures err { OnErr result (self.new ≡ self.old) }
+    {
+        match &mut self.content {
+            Content::Listed { elements, .. } => elements.push(element),
+            _ => Ok(()),
+        }
+    }
+
+    /// Puts units behind those of a builder.
+    pub(crate) fn append(&mut self, units: &[u16]) -> Result<(), AllocError>
+        requires { IsSome (with_units units.now self.old) }
+        ensures ok { OnOk result (with_units units.now self.old ≡ Some self.new) }
+        ensures cells { OnOk result (cells_of self.new ≡ cells_of self.old + length units.now) }
+        ensures err { OnErr result (self.new ≡ self.old) }
+    {
+        match &mut self.content {
+            Content::Builder { units: built } => built.append(units),
+            _ => Ok(()),
+        }
+    }
+
+    pub(crate) fn set_element(&mut self, place: usize, element: u32)
+        requires { IsSome (with_element place element self.old) }
+        ensures changed { with_element place element self.old ≡ Some self.new }
+        ensures cells { cells_of self.new ≡ cells_of self.old }
+    {
+        match &mut self.content {
+            Content::Listed { elements, .. } => elements.set(place, element),
+            _ => {}
+        }
+    }
+
+    pub(crate) fn set_next(&mut self, place: u32)
+        requires { IsSome (with_next place self.old) }
+        ensures changed { with_next place self.old ≡ Some self.new }
+        ensures cells { cells_of self.new ≡ cells_of self.old }
+    {
+        match &mut self.content {
+            Content::Iterator { next, .. } => *next = place,
+            _ => {}
+        }
+    }
+
+    pub(crate) fn set_message(&mut self, new_message: u32, new_cause: u32)
+        requires { IsSome (with_message new_message new_cause self.old) }
+        ensures changed { with_message new_message new_cause self.old ≡ Some self.new }
+        ensures cells { cells_of self.new ≡ cells_of self.old }
+    {
+        match &mut self.content {
+            Content::Throwable { message, cause, .. } => {
+                *message = new_message;
+                *cause = new_cause;
+            }
+            _ => {}
+        }
+    }
+
+    pub(crate) fn set_name(&mut self, new_name: u32, new_ordinal: i32)
+        requires { IsSome (with_name new_name new_ordinal self.old) }
+        ensures changed { with_name new_name new_ordinal self.old ≡ Some self.new }
+        ensures cells { cells_of self.new ≡ cells_of self.old }
+    {
+        match &mut self.content {
+            Content::Enumerated { name, .. } => *name = new_name,
+            _ => {}
+        }
+        match &mut self.content {
+            Content::Enumerated { ordinal, .. } => *ordinal = new_ordinal,
+            _ => {}
         }
     }
 }
