@@ -1,0 +1,11 @@
+pub mod Texts
+pub mod Paths
+pub mod Worlds
+pub mod Thrown
+pub mod Answers
+pub mod Plain
+pub mod Strings
+pub mod Numbers
+pub mod Lists
+pub mod Outside
+pub mod Table
