@@ -1,0 +1,17 @@
+pub mod Plans
+pub mod Actions
+pub mod Arithmetic
+pub mod Working
+pub mod States
+pub mod Attempts
+pub mod Types
+pub mod Calls
+pub mod Frames
+pub mod Concatenating
+pub mod Initialising
+pub mod Lambdas
+pub mod Driving
+pub mod Arrays
+pub mod Instructions
+pub mod Steps
+pub mod Runs
