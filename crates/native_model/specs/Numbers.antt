@@ -3,7 +3,7 @@ use Rattle.std.specs.Prelude.{ℕ, ◌/◌, ◌%◌, ◌^◌, ℤ, pos, negsuc, 
 use Rattle.std.specs.Ordering.{int_eq}
 use Rattle.std.specs.Fmt.{signed_decimal}
 use Rattle.std.specs.Int.{w32, w64, cast_signed, cast_unsigned, int_min, int_max, int_wrapping_add, int_wrapping_neg}
-use Rattle.jvm_heap.specs.Heaps.{box_of_int, box_of_long, box_of_boolean, same_truth}
+use Rattle.jvm_heap.specs.Heaps.{box_of_int, box_of_long, box_of_boolean}
 use Rattle.native_model.specs.Texts.{truth_text, signed_number_of, if_within}
 use Rattle.native_model.specs.Worlds.{World, as_text, as_int, as_long, as_boolean, seen}
 use Rattle.native_model.specs.Thrown.{number_format}
@@ -94,7 +94,7 @@ boolean_of_box o w = on as_boolean o w (λ b. gives_truth b w)
 
 abbrev pub is_same_truth : Bool → Option Bool → Bool
 is_same_truth b None = false
-is_same_truth b (Some c) = same_truth b c
+is_same_truth b (Some c) = if b then c else not c
 
 abbrev pub boolean_box_equals : ℕ → ℕ → World → Answer
 boolean_box_equals o other w = on as_boolean o w (λ b. gives_truth (is_same_truth b (seen as_boolean other w)) w)
