@@ -24,3 +24,7 @@ pub mod Stops
 pub mod PoolStops
 pub mod ClassStops
 pub mod Steps
+pub mod Tells
+pub mod AttributeTells
+pub mod PoolTells
+pub mod ClassTells

@@ -23,10 +23,10 @@ use Rattle.class_text.proofs.PoolPlaces.{one_at, list_at}
 use Rattle.class_text.proofs.Targets.{split}
 use Rattle.class_text.proofs.Stops.{Tied, NoFault, CutsNothing, stops_here, made_tied, bind_tied}
 
-IsOne : ℕ → Constant → Type 0
+pub IsOne : ℕ → Constant → Type 0
 IsOne left c = IsConstant c × (is_second c ≡ false) × (takes_two c ≡ true → 2 ≤ left)
 
-one_reads : (left : ℕ) → Reads (one_at left) (IsOne left) constant
+pub one_reads : (left : ℕ) → Reads (one_at left) (IsOne left) constant
 unfolding IsOne
 one_reads left = record {
   takes = λ end bytes c rest are e. let t = constant_taken end left bytes c rest are e in ((t.fits, t.plain, t.room), t.takes);

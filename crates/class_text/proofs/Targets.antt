@@ -2,7 +2,7 @@
 use Rattle.std.proofs.Common.{◌≡◌, ℕ, zero, suc, eqb, ◌+◌, ◌-◌, ◌^◌, ◌≤◌, Bool, true, false, List, [], ◌∷◌, ◌++◌, length, flat_map, Option, Some, None, Err, refl, sym, ap, subst, ◌∙◌, append_assoc, arith, inl, inr}
 use Rattle.std.specs.List.{AllByRecursion}
 use Rattle.std.specs.Int.{w16, to_be_bytes}
-use Rattle.std.proofs.lemmas.Bool.{cases_Bool, eqb-false}
+use Rattle.std.proofs.lemmas.Bool.{cases_Bool, eqb-true, eqb-false}
 use Rattle.std.proofs.lemmas.List.{length-append}
 use Rattle.class_model.specs.declared.constant_pool.Constant.{Constant}
 use Rattle.class_model.specs.declared.constant_pool.Constant.TheVariants.{Second}
@@ -111,7 +111,7 @@ first_wrong end bytes at are small e = go (number_at w16 bytes) refl e
 
     counted : (count : ℕ) (rest : List ℕ) → Takes bytes (to_be_bytes w16 count) rest → counted_at end start (count, rest) ≡ Err f → IsWrongAt end bytes at
     counted count rest t e = elim (cases_Bool (eqb count 0)) [
-      | inl y ↦ inl (place_is start (err_is (bad_index start) f (rw y at e)))
+      | inl y ↦ inl (place_is start (err_is (bad_index start) f (rw y at e)), (rest, t.parts ∙ ap (λ (n : ℕ). to_be_bytes w16 n ++ rest) (eqb-true count 0 y)))
       | inr g ↦ constants count rest t g (bind_err (constants_at end false (count - 1) rest) (judged (place end rest)) f (rw g at e))
     ]
 

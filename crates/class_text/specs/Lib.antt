@@ -6,3 +6,4 @@ pub mod Elements
 pub mod Attributes
 pub mod Classes
 pub mod Places
+pub mod Meanings

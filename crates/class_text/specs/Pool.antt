@@ -121,7 +121,8 @@ pub record IsFirstWrong (end : ℕ) (bytes : List ℕ) (at : ℕ) (good : List C
   pub wrong : has_targets pool bad ≡ false
   pub here : at ≡ place end (flat_map spelling.constant (bad ∷ more) ++ rest)
 
+-- A wrong index in a pool is the count's, which is 0, or one of the first constant that leads elsewhere.
 abbrev pub IsWrongAt : ℕ → List ℕ → ℕ → Type 0
 IsWrongAt end bytes at =
-    (at ≡ place end bytes)
+    ((at ≡ place end bytes) × ((rest : List ℕ) × (bytes ≡ to_be_bytes w16 0 ++ rest)))
     ⊎ ((good : List Constant) × (bad : Constant) × (more : List Constant) × (rest : List ℕ) × (pool : Pool) × IsFirstWrong end bytes at good bad more rest pool)

@@ -1,16 +1,17 @@
 //! The laws that tie the reading of class files to the grammar.
 
-ghost use Rattle.std.specs.Prelude.{◌≡◌, ◌⊎◌, ◌+◌, ◌++◌, ◌<◌, ◌≤◌, ℕ, List, length, take, true, false, Ok, Err};
+ghost use Rattle.std.specs.Prelude.{◌≡◌, ◌⊎◌, ◌+◌, ◌++◌, ◌^◌, ◌<◌, ◌≤◌, ℕ, List, length, take, true, false, Ok, Err};
 ghost use Rattle.class_model.specs.declared.class_file.Class.{Class};
 ghost use Rattle.class_model.specs.declared.constant_pool.Pool.{Pool};
 ghost use Rattle.class_model.specs.Attributes.{Place};
 ghost use Rattle.class_model.specs.Constants.{IsPool};
 ghost use Rattle.class_model.specs.Shape.{Shaped};
 ghost use Rattle.class_model.specs.Spelling as spelling;
-ghost use Rattle.class_text.specs.Reading.{Fault, is_cut, place_of, place, IsBytes};
+ghost use Rattle.class_text.specs.Reading.{Fault, cut_short, is_cut, place_of, place, IsBytes};
 ghost use Rattle.class_text.specs.Elements.{is_text};
 ghost use Rattle.class_text.specs.Attributes.{content_at, code_content_at, code_at};
 ghost use Rattle.class_text.specs.Classes.{class_of, class_at_front};
+ghost use Rattle.class_text.specs.Meanings.{IsMeant};
 ghost use Rattle.class_text.specs.Places.{IsOnlyCut, IsGoodBefore, IsWithin, IsCutBefore, Stops, IsInFile, IsInCode, is_left};
 
 /// A class that is read is shaped and is spelled by the bytes, and the text of each shaped class is read. So a text has
@@ -40,6 +41,18 @@ pub fn class_place_law()
     ensures stops { (bytes : List ℕ) (fault : Fault) → IsBytes bytes → class_of bytes ≡ Err fault → is_left fault ≡ false
         → Stops class_at_front (IsInFile bytes) (length bytes) bytes fault }
     ensures within { (bytes : List ℕ) (fault : Fault) → IsBytes bytes → class_of bytes ≡ Err fault → IsWithin (length bytes) fault }
+{}
+
+/// What each fault says of the bytes at its place: the magic and the major version there are others; a text there isn't
+/// modified UTF-8; the byte there is that tag; the index there is the count of the pool, which is 0, or that of the first
+/// constant that leads elsewhere, or stands behind the pool and doesn't lead to what is wanted; the name of an attribute
+/// stands there, and where it is a second one, right behind attributes of which one has this known name; the method
+/// there lacks its code; a whole class stands before. Where 2^32 bytes follow a cut, whatever they are, nothing is cut
+/// there or before.
+pub fn class_fault_law()
+    ensures says { (file : List ℕ) (fault : Fault) → IsBytes file → class_of file ≡ Err fault → IsMeant file fault }
+    ensures lengthened { (bytes more : List ℕ) (at next : ℕ) → IsBytes bytes → IsBytes (bytes ++ more) → 2 ^ 32 ≤ length more
+        → class_of bytes ≡ Err (cut_short at) → class_of (bytes ++ more) ≡ Err (cut_short next) → at < next }
 {}
 
 /// The content of an attribute is looked at once it is whole, so the bytes of a file before a place in it are cut where

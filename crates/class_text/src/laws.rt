@@ -1,10 +1,11 @@
 //! The laws that tie reading to the grammar.
 
-ghost use Rattle.std.specs.Prelude.{◌≡◌, ◌+◌, ◌++◌, ◌≤◌, ℕ, List, length, false, Ok, Err};
+ghost use Rattle.std.specs.Prelude.{◌≡◌, ◌+◌, ◌++◌, ◌≤◌, ℕ, List, length, drop, false, Ok, Err};
 ghost use Rattle.class_model.specs.declared.constant_pool.Pool.{Pool};
 ghost use Rattle.class_model.specs.Constants.{IsPool};
 ghost use Rattle.class_model.specs.Spelling as spelling;
 ghost use Rattle.class_text.specs.Reading.{Fault, bad_index, place_of, is_cut, IsBytes};
+ghost use Rattle.class_text.specs.Meanings.{IsMeantInPool};
 ghost use Rattle.class_text.specs.Pool.{pool_at, OnlyGoodBefore, IsWrongAt};
 
 /// A pool that is read is spelled by the bytes that it takes, and each spelling of a pool is read, whatever follows. So
@@ -26,6 +27,14 @@ pub fn place_law()
 pub fn target_law()
     ensures { (end : ℕ) (bytes : List ℕ) (at : ℕ) → IsBytes bytes → length bytes ≤ end → pool_at end bytes ≡ Err (bad_index at)
         → IsWrongAt end bytes at }
+{}
+
+/// What each fault of the pool that begins at a place of a file says: fewer than 2^32 bytes are left behind a cut; the
+/// byte there is that tag, of no constant or of one that takes two numbers; a text there isn't modified UTF-8; the index
+/// is the count, which is 0, or that of the first constant that leads elsewhere.
+pub fn pool_fault_law()
+    ensures { (file : List ℕ) (start : ℕ) (fault : Fault) → IsBytes file → start ≤ length file → pool_at (length file) (drop start file) ≡ Err fault
+        → IsMeantInPool file start (length file) fault }
 {}
 
 /// A fault other than a cut stays where more bytes follow. So no text that begins with such bytes is that of a pool.

@@ -6,5 +6,7 @@
 mod files;
 mod laws;
 
-pub use files::{class_continued_law, class_laws, class_place_law, content_place_law};
-pub use laws::{continued_law, place_law, pool_laws, target_law};
+pub use files::{
+    class_continued_law, class_fault_law, class_laws, class_place_law, content_place_law,
+};
+pub use laws::{continued_law, place_law, pool_fault_law, pool_laws, target_law};
