@@ -8,7 +8,7 @@ use Rattle.std.proofs.lemmas.Grind.{flat_map-append}
 use Rattle.class_model.specs.declared.constant_pool.Constant.{Constant}
 use Rattle.class_model.specs.declared.constant_pool.Constant.TheVariants.{Second}
 use Rattle.class_model.specs.declared.constant_pool.Pool.{Pool}
-use Rattle.class_model.specs.Constants.{IsConstant, has_targets, takes_two, is_second, has_seconds}
+use Rattle.class_model.specs.Constants.{IsConstant, takes_two, is_second, has_seconds}
 use Rattle.class_model.specs.Spelling.{constant}
 use Rattle.class_text.specs.Reading.{Fault, cut_short, bad_index, ◌>>=◌, place, place_of, number_at, or_cut, IsBytes}
 use Rattle.class_text.specs.Pool.{constant_at, constants_at, with_first, wrong_at, pool_of, unless_wrong, judged, counted_at, pool_at}
@@ -17,7 +17,7 @@ use Rattle.class_text.proofs.Numbers.{Takes, wide16, number_takes, number_again}
 use Rattle.class_text.proofs.Constants.{constant_taken, constant_again}
 use Rattle.class_text.proofs.Pools.{AreTaken, constants_taken, is_it, room_for}
 use Rattle.class_text.proofs.Continued.{constant_more}
-use Rattle.class_text.proofs.Places.{Failed, first, later, bind_err, err_is, constant_place}
+use Rattle.class_text.proofs.Places.{Failed, first, later, bind_err, err_is, constant_place, not_second}
 use Rattle.class_text.proofs.Readers.{Reads, bind}
 use Rattle.class_text.proofs.PoolPlaces.{one_at, list_at}
 use Rattle.class_text.proofs.Targets.{split}
@@ -68,11 +68,6 @@ short_list (g ∷ good) false bad more p fit plain s =
     let one = constant_again p (suc (length cs)) g (flat_map constant good) fit.0 (not-true (is_second g) parts.0) (λ two. let h : 1 ≤ length cs = room_for (takes_two g) cs parts.1 two in omega arith) in
     let others = short_list good (takes_two g) bad more p fit.1 plain parts.1 in
     rw (one, others) refl
-
-not_second : (p : Pool) (c : Constant) → has_targets p c ≡ false → is_second c ≡ false
-unfolding has_targets
-not_second p Second e = absurd cc
-not_second p _ e = refl
 
 all_front : {A : Type 0} (P : A → Type 0) (xs ys : List A) → AllByRecursion P (xs ++ ys) → AllByRecursion P xs
 all_front P [] ys all = tt

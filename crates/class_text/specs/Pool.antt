@@ -1,12 +1,12 @@
 -- The first bad place of a constant pool (JVMS 4.4).
-use Rattle.std.specs.Prelude.{◌≡◌, ◌⊎◌, ℕ, zero, suc, ◌+◌, ◌-◌, Bool, true, false, not, ◌&&◌, ◌||◌, ◌==◌, nat_lt, nat_le, List, [], ◌∷◌, ◌++◌, length, take, drop, Option, Some, None, option_map, option_and_then, Ok, Err, if◌then◌else◌}
+use Rattle.std.specs.Prelude.{◌≡◌, ◌⊎◌, ℕ, zero, suc, ◌+◌, ◌-◌, ◌<◌, Bool, true, false, not, ◌&&◌, ◌||◌, ◌==◌, nat_lt, nat_le, List, [], ◌∷◌, ◌++◌, length, take, drop, Option, Some, None, option_map, option_and_then, Ok, Err, if◌then◌else◌}
 use Rattle.std.specs.List.{flat_map, AllByRecursion}
 use Rattle.std.specs.Int.{Width, to_be_bytes, w16, w32, w64}
 use Rattle.class_model.specs.declared.constant_pool.Constant.{Constant}
 use Rattle.class_model.specs.declared.constant_pool.Constant.TheVariants.{Utf8, Integer, Float, Long, Double, Class, Text, Ref, NameType, Handle, MethodType, InvokeDynamic, Second}
 use Rattle.class_model.specs.declared.constant_pool.Pool.{Pool}
 use Rattle.class_model.specs.Units.{is_text}
-use Rattle.class_model.specs.Constants.{IsConstant, has_targets, takes_two}
+use Rattle.class_model.specs.Constants.{IsConstant, has_targets, has_seconds, takes_two}
 use Rattle.class_model.specs.Spelling as spelling
 use Rattle.class_text.specs.Reading.{cut_short, bad_tag, bad_text, bad_index, Reading, ◌>>=◌, place, number_at, or_cut}
 
@@ -101,10 +101,13 @@ counted_at end at count =
 unfoldable pub pool_at : ℕ → List ℕ → Reading Pool
 pool_at end bytes = or_cut (place end bytes) (number_at w16 bytes) >>= counted_at end (place end bytes)
 
--- Constants that are good by themselves stand before a place, and behind the count, if it isn't the count's own.
+-- Constants that are good by themselves stand before a place, and behind the count, if it isn't the count's own. Each Long
+-- and Double among them has its Second, and with the count's own number they are fewer than the count.
 pub record IsBehind (end : ℕ) (bytes : List ℕ) (at count : ℕ) (good : List Constant) (rest : List ℕ) : Type 0 where
   pub spelled : bytes ≡ to_be_bytes w16 count ++ flat_map spelling.constant good ++ rest
   pub fit : AllByRecursion IsConstant good
+  pub seconds : has_seconds false good ≡ true
+  pub few : length good + 1 < count
   pub here : at ≡ place end rest
 
 abbrev pub OnlyGoodBefore : ℕ → List ℕ → ℕ → Type 0
