@@ -8,7 +8,7 @@ use Rattle.class_model.specs.declared.class_file.Class.{Class}
 use Rattle.class_model.specs.Constants.{IsPool}
 use Rattle.class_model.specs.Shape.{Shaped}
 use Rattle.class_model.specs.Spelling as spelling
-use Rattle.class_text.specs.Reading.{Fault, bad_magic, bad_major, Reading, place, IsBytes}
+use Rattle.class_text.specs.Reading.{Fault, cut_short, bad_tag, bad_text, bad_index, bad_magic, bad_major, bad_attribute, second_attribute, code_missing, bytes_left, Reading, place, IsBytes}
 use Rattle.class_text.specs.Readers.{u2_at, u4_at}
 use Rattle.class_text.specs.Pool.{pool_at}
 use Rattle.class_text.specs.Classes.{minor_at, major_at, behind_pool_at, class_at_front, class_of}
@@ -16,9 +16,11 @@ use Rattle.class_text.proofs.Numbers.{bind_ok, ok_is}
 use Rattle.class_text.proofs.Pools.{pool_again}
 use Rattle.class_text.proofs.Parts.{u2_reads, u4_reads}
 use Rattle.class_text.proofs.ClassLaws.{class_taken, class_again, class_once}
+use Rattle.class_text.specs.Meanings.{IsMeant}
+use Rattle.class_text.proofs.ClassTells.{class_meant}
 use Rattle.class_read.specs.declared.class_fault.ClassFault.{ClassFault}
 use Rattle.class_read.specs.declared.class_fault.ClassFault.TheVariants.{BadMagic, BadMajor, CutShort, BadTag, BadUtf8, BadIndex, BadAttribute, SecondAttribute, CodeMissing, BytesLeft, Memory}
-use Rattle.class_read.specs.Faults.{Fails, Gives, IsOkUnlessMemory}
+use Rattle.class_read.specs.Faults.{IsOf, Fails, Gives, IsOkUnlessMemory}
 use Rattle.class_read.proofs.Lists.{fails_via}
 
 -- what stands behind some bytes
@@ -111,6 +113,24 @@ all_found bytes (Err e) are is = tt
 pub all_faults : (bytes : List ℕ) (result : Result Class ClassFault) → Gives (λ c. c) result (class_of bytes) → IfErr result (λ e. Fails e (class_of bytes))
 all_faults bytes (Ok c) is = tt
 all_faults bytes (Err e) is = is
+
+-- What a fault of the reading says holds of the fault that was returned.
+said : (P : Fault → Type 0) (e : ClassFault) (reading : Result Class Fault) → ((f : Fault) → reading ≡ Err f → P f) → Fails e reading → IsOf P e
+said P BadMagic reading on is = on bad_magic is
+said P (BadMajor version) reading on is = on (bad_major version) is
+said P (CutShort at) reading on is = on (cut_short at) is
+said P (BadTag at tag) reading on is = on (bad_tag at tag) is
+said P (BadUtf8 at) reading on is = on (bad_text at) is
+said P (BadIndex at) reading on is = on (bad_index at) is
+said P (BadAttribute at) reading on is = on (bad_attribute at) is
+said P (SecondAttribute at) reading on is = on (second_attribute at) is
+said P (CodeMissing at) reading on is = on (code_missing at) is
+said P (BytesLeft at) reading on is = on (bytes_left at) is
+said P Memory reading on is = tt
+
+pub all_said : (bytes : List ℕ) (result : Result Class ClassFault) → IsBytes bytes → Gives (λ c. c) result (class_of bytes) → IfErr result (λ e. IsOf (IsMeant bytes) e)
+all_said bytes (Ok c) are is = tt
+all_said bytes (Err e) are is = said (IsMeant bytes) e (class_of bytes) (λ f bad. class_meant bytes f are bad) is
 
 -- the front of a file behind its versions
 pub front_read : (end : ℕ) (bytes : List ℕ) (minor : ℕ) (rest : List ℕ) (major : ℕ) (more : List ℕ) (pool : Pool) (after : List ℕ) → minor_at end bytes ≡ Ok (minor, rest) → major_at end rest ≡ Ok (major, more) → pool_at end more ≡ Ok (pool, after)

@@ -4,19 +4,23 @@ use Rattle.class_text.specs.Reading.{Fault, cut_short, bad_tag, bad_text, bad_in
 use Rattle.class_read.specs.declared.class_fault.ClassFault.{ClassFault}
 use Rattle.class_read.specs.declared.class_fault.ClassFault.TheVariants.{BadMagic, BadMajor, CutShort, BadTag, BadUtf8, BadIndex, BadAttribute, SecondAttribute, CodeMissing, BytesLeft, Memory}
 
--- The reading has this fault; of a want of memory nothing is said.
+-- A fact holds of this fault; of a want of memory nothing is said.
+abbrev pub IsOf : (Fault → Type 0) → ClassFault → Type 0
+IsOf P BadMagic = P bad_magic
+IsOf P (BadMajor version) = P (bad_major version)
+IsOf P (CutShort at) = P (cut_short at)
+IsOf P (BadTag at tag) = P (bad_tag at tag)
+IsOf P (BadUtf8 at) = P (bad_text at)
+IsOf P (BadIndex at) = P (bad_index at)
+IsOf P (BadAttribute at) = P (bad_attribute at)
+IsOf P (SecondAttribute at) = P (second_attribute at)
+IsOf P (CodeMissing at) = P (code_missing at)
+IsOf P (BytesLeft at) = P (bytes_left at)
+IsOf P Memory = Unit {0}
+
+-- the reading has this fault
 abbrev pub Fails : {A : Type 0} → ClassFault → Result A Fault → Type 0
-Fails BadMagic reading = reading ≡ Err bad_magic
-Fails (BadMajor version) reading = reading ≡ Err (bad_major version)
-Fails (CutShort at) reading = reading ≡ Err (cut_short at)
-Fails (BadTag at tag) reading = reading ≡ Err (bad_tag at tag)
-Fails (BadUtf8 at) reading = reading ≡ Err (bad_text at)
-Fails (BadIndex at) reading = reading ≡ Err (bad_index at)
-Fails (BadAttribute at) reading = reading ≡ Err (bad_attribute at)
-Fails (SecondAttribute at) reading = reading ≡ Err (second_attribute at)
-Fails (CodeMissing at) reading = reading ≡ Err (code_missing at)
-Fails (BytesLeft at) reading = reading ≡ Err (bytes_left at)
-Fails Memory reading = Unit {0}
+Fails fault reading = IsOf (λ f. reading ≡ Err f) fault
 
 -- What was returned, as `view` sees it, is what the reading gives, unless memory ran out.
 abbrev pub Gives : {X A : Type 0} → (X → A) → Result X ClassFault → Result A Fault → Type 0

@@ -9,8 +9,9 @@ ghost use Rattle.class_text.specs.Reading.{Reading};
 ghost use Rattle.class_text.specs.Readers.{index_at, many_at, counted_at};
 ghost use Rattle.class_text.specs.Pool.{pool_at};
 ghost use Rattle.class_text.specs.Classes.{minor_at, major_at, behind_pool_at, class_at_front, class_of};
+ghost use Rattle.class_text.specs.Meanings.{IsMeant};
 ghost use Rattle.const_pool.specs.Faults.{Fails as PoolFails};
-ghost use Rattle.class_read.specs.Faults.{Gives, Fails, IsOkUnlessMemory};
+ghost use Rattle.class_read.specs.Faults.{Gives, IsOf, Fails, IsOkUnlessMemory};
 
 use crate::attributes::attributes_in;
 use crate::class_fault::ClassFault;
@@ -189,6 +190,8 @@ pub fn read_class(alloc: Global, bytes: &[u8]) -> Result<Class, ClassFault>
     ensures only { (c : Class) → Shaped c → bytes.now ≡ spelling.class c → IsOkUnlessMemory (λ x. x ≡ c) result }
     // A refusal is the first bad place.
     ensures fault { IfErr result (λ e. Fails e (class_of bytes.now)) }
+    // It says what stands there.
+    ensures says { IfErr result (λ e. IsOf (IsMeant bytes.now) e) }
     // A text has at most one class.
     ensures one { (c d : Class) → Shaped c → Shaped d → bytes.now ≡ spelling.class c → bytes.now ≡ spelling.class d → c ≡ d }
 {

@@ -9,13 +9,13 @@ use Rattle.class_model.specs.declared.constant_pool.Constant.TheVariants.{Ref}
 use Rattle.class_model.specs.declared.constant_pool.Pool.{Pool}
 use Rattle.class_model.specs.Constants.{IsPool, constant_at as number, is_some_that, is_class_constant, is_for_field, is_for_method, has_targets}
 use Rattle.class_model.specs.Spelling.{constant, pool}
-use Rattle.class_text.specs.Reading.{cut_short, bad_tag, bad_text, bad_index, Reading, place, number_at, IsBytes}
+use Rattle.class_text.specs.Reading.{Fault, cut_short, bad_tag, bad_text, bad_index, Reading, place, number_at, IsBytes}
 use Rattle.class_text.specs.Pool.{constants_at, wrong_at, pool_at}
 use Rattle.class_text.proofs.Numbers.{IsBytes-drop, ok_is, wide16, number_takes}
 use Rattle.class_text.proofs.Pools.{constants_taken, pool_taken, pool_again}
 use Rattle.const_pool.specs.declared.pool_fault.PoolFault.{PoolFault}
 use Rattle.const_pool.specs.declared.pool_fault.PoolFault.TheVariants.{CutShort, BadTag, BadUtf8, BadIndex, Memory}
-use Rattle.const_pool.specs.Faults.{Fails}
+use Rattle.const_pool.specs.Faults.{IsOf, Fails}
 
 pub member_of_field : (p : Pool) (tag class name_type : ℕ) (r : Bool) → tag ≡ 9 → true ≡ is_some_that is_class_constant (number p class)
     → r ≡ is_some_that (is_for_field p) (number p name_type) → r ≡ has_targets p (Ref tag class name_type)
@@ -100,3 +100,11 @@ read_only bytes at p after next q rest are e is right spelled =
     let back : drop next bytes ≡ after = rw is (behind_pool at bytes (pool p) after t.1.parts) in
     let same = same_value (p, after) (q, rest) (pool_at (length bytes) (drop at bytes)) e (again_there bytes at q rest right spelled) in
     (ap (λ (x : Pool × List ℕ). x.0) same, back ∙ ap (λ (x : Pool × List ℕ). x.1) same)
+
+-- What a fault of the reading says holds of the fault that was returned.
+pub said : (P : Fault → Type 0) (e : PoolFault) (reading : Reading Pool) → ((f : Fault) → reading ≡ Err f → P f) → Fails e reading → IsOf P e
+said P (CutShort at) reading on is = on (cut_short at) is
+said P (BadTag at tag) reading on is = on (bad_tag at tag) is
+said P (BadUtf8 at) reading on is = on (bad_text at) is
+said P (BadIndex at) reading on is = on (bad_index at) is
+said P Memory reading on is = tt

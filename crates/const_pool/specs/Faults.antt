@@ -5,13 +5,17 @@ use Rattle.class_text.specs.Reading.{Fault, cut_short, bad_tag, bad_text, bad_in
 use Rattle.const_pool.specs.declared.pool_fault.PoolFault.{PoolFault}
 use Rattle.const_pool.specs.declared.pool_fault.PoolFault.TheVariants.{CutShort, BadTag, BadUtf8, BadIndex, Memory}
 
--- The reading has this fault; of a want of memory nothing is said.
+-- A fact holds of this fault; of a want of memory nothing is said.
+abbrev pub IsOf : (Fault → Type 0) → PoolFault → Type 0
+IsOf P (CutShort at) = P (cut_short at)
+IsOf P (BadTag at tag) = P (bad_tag at tag)
+IsOf P (BadUtf8 at) = P (bad_text at)
+IsOf P (BadIndex at) = P (bad_index at)
+IsOf P Memory = Unit {0}
+
+-- the reading has this fault
 abbrev pub Fails : {A : Type 0} → PoolFault → Result A Fault → Type 0
-Fails (CutShort at) reading = reading ≡ Err (cut_short at)
-Fails (BadTag at tag) reading = reading ≡ Err (bad_tag at tag)
-Fails (BadUtf8 at) reading = reading ≡ Err (bad_text at)
-Fails (BadIndex at) reading = reading ≡ Err (bad_index at)
-Fails Memory reading = Unit {0}
+Fails fault reading = IsOf (λ f. reading ≡ Err f) fault
 
 -- What was returned, as `view` sees it, is what the reading gives, unless memory ran out.
 abbrev pub Gives : {X A : Type 0} → (X → A) → Result X PoolFault → Result A Fault → Type 0

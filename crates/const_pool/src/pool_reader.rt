@@ -7,8 +7,9 @@ ghost use Rattle.class_model.specs.Constants.{takes_two, IsPool};
 ghost use Rattle.class_model.specs.Spelling as spelling;
 ghost use Rattle.class_text.specs.Reading.{place};
 ghost use Rattle.class_text.specs.Pool.{of_two, handle_at, fixed_at, is_tag, is_wide, utf8_at, constant_at, constants_at, wrong_at, judged, pool_at};
+ghost use Rattle.class_text.specs.Meanings.{IsMeantInPool};
 ghost use Rattle.const_pool.specs.TextForms.{IsTableOf};
-ghost use Rattle.const_pool.specs.Faults.{Gives, Fails, IsOkUnlessMemory, behind};
+ghost use Rattle.const_pool.specs.Faults.{Gives, IsOf, Fails, IsOkUnlessMemory, behind};
 
 use crate::judged_pool::JudgedPool;
 use crate::numbers::{u2_in, u4_in, u8_in};
@@ -323,6 +324,8 @@ pub fn read_pool(alloc: Global, bytes: &[u8], at: u32) -> Result<(JudgedPool, u3
         → IsOkUnlessMemory (λ r. (r.0 ≡ pool) × (drop r.1 bytes.now ≡ rest)) result }
     // A refusal is the first bad place.
     ensures fault { IfErr result (λ e. Fails e (pool_at (length bytes.now) (drop at bytes.now))) }
+    // It says what stands there.
+    ensures says { IfErr result (λ e. IsOf (IsMeantInPool bytes.now at (length bytes.now)) e) }
 {
     let end = bytes.len() as u32;
     let (_, rest) = bytes.split_at(at as usize);
