@@ -28,3 +28,4 @@ pub mod Tells
 pub mod AttributeTells
 pub mod PoolTells
 pub mod ClassTells
+pub mod DescriptorLaws

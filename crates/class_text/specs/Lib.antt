@@ -7,3 +7,4 @@ pub mod Attributes
 pub mod Classes
 pub mod Places
 pub mod Meanings
+pub mod DescriptorText

@@ -3,9 +3,11 @@
 //! above have their contracts in these definitions, and rest on the laws below.
 #![tactic(auto)]
 
+mod descriptors;
 mod files;
 mod laws;
 
+pub use descriptors::descriptor_laws;
 pub use files::{
     class_continued_law, class_fault_law, class_laws, class_place_law, content_place_law,
 };
