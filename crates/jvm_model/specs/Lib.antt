@@ -15,3 +15,5 @@ pub mod Arrays
 pub mod Instructions
 pub mod Steps
 pub mod Runs
+pub mod Programs
+pub mod Bodies
