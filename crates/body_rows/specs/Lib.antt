@@ -1,0 +1,4 @@
+pub mod Samples
+pub mod Numbers
+pub mod Objects
+pub mod Calls
