@@ -1,6 +1,6 @@
 //! Objects that are made once.
 
-ghost use Rattle.std.specs.Prelude.{◌≡◌, ◌+◌, ◌<◌, ◌++◌, ◌^◌, ◌∷◌, [], IfOk, OnErr, length, vec_len, vec_capacity};
+ghost use Rattle.std.specs.Prelude.{◌≡◌, ◌+◌, ◌<◌, ◌++◌, ◌^◌, ◌∷◌, [], IfOk, OnOk, OnErr, length, vec_len, vec_capacity};
 ghost use Rattle.std.specs.BTreeMap.{insert_entry};
 ghost use Rattle.jvm_heap.specs.Heaps.{is_small, constant_text, box_of_int, box_of_long, box_of_boolean};
 ghost use Rattle.jvm_heap.specs.Changes.{Makes};
@@ -39,8 +39,9 @@ fn make_kept<K: Ord + Drop>(
 ) -> Result<u32, AllocError>
     requires { vec_len objects.old + 1 < 2 ^ 32 }
     ensures number { IfOk result (λ number. number ≡ length objects.old.items + 1) }
-    ensures objects { IfOk result (λ number. objects.new.items ≡ objects.old.items ++ object ∷ []) }
-    ensures kept { IfOk result (λ number. kept.new.entries ≡ insert_entry K.cmp kept.old.entries key number) }
+    ensures objects { OnOk result (objects.new.items ≡ objects.old.items ++ object ∷ []) }
+    ensures kept { IfOk result (λ number.
+        kept.new.entries ≡ insert_entry K.cmp kept.old.entries key number) }
     ensures same_objects { OnErr result (objects.new.items ≡ objects.old.items) }
     ensures same_kept { OnErr result (kept.new.entries ≡ kept.old.entries) }
 {
