@@ -100,6 +100,16 @@ def stores_under_distinct_handlers(size):
     return one_method(pool, code(pool, 1, 251, body + THROW * count, handlers, frames), "(" + "I" * 250 + ")V")
 
 
+def stores_between_ranges(size):
+    """15,000 stores, and before each a range of its own that ends there."""
+    count = 15_000 // size
+    body = (NOP + ICONST_0 + pack(">BB", ISTORE, 0)) * count + RETURN
+    pool = Pool()
+    handlers = [handler(4 * at, 4 * at + 1, len(body)) for at in range(count)]
+    frames = [full_frame(len(body), [], [object_kind(pool, ANY_THROWABLE)])]
+    return one_method(pool, code(pool, 1, 1, body + THROW, handlers, frames))
+
+
 def switch_to_one_frame(size):
     """A switch of 15,000 cases to one frame, over 60,000 locals."""
     cases = 15_000 // size
@@ -193,6 +203,7 @@ CASES = [
     ranges_that_catch_a_long_class,
     nested_ranges,
     stores_under_distinct_handlers,
+    stores_between_ranges,
     switch_to_one_frame,
     switches_to_one_frame,
     branches_to_one_deep_stack,
