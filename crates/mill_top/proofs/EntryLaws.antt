@@ -1,5 +1,5 @@
 -- Laws of entries that read, over a store that may tell its content.
-use Rattle.std.proofs.Common.{◌≡◌, ◌≢◌, ℕ, ℤ, List, Option, Some, None, IfSome, refl, sym, ap, ◌∙◌}
+use Rattle.std.proofs.Common.{◌≡◌, ◌≢◌, ℕ, ℤ, List, Option, Some, None, IfSome, refl, sym, subst}
 use Rattle.io_traits.specs.Files.{Files}
 use Rattle.value_text.specs.Short.{as_short, int}
 use Rattle.out_entry.specs.declared.entry.Entry.{Entry}
@@ -7,23 +7,21 @@ use Rattle.out_store.specs.Generations.{Reads}
 use Rattle.out_store.proofs.StandingLaws.{one_entry}
 use Rattle.mill_top.specs.declared.takes.Found.TheVariants.{Missing, Other, Same}
 use Rattle.mill_top.specs.declared.outcome.Outcome.{Outcome}
-use Rattle.mill_top.specs.Takes.{ReadsInt, Why, IsGivenBy}
+use Rattle.mill_top.specs.Takes.{ReadsInt, HoldsNoInt, Why, IsGivenBy}
 
--- an entry that holds no int is no entry of an int
+-- an entry of this input hash that holds no int
 pub no_int_why : (task input : List ℕ) (content : Option Files) (entry : Entry) → IfSome content (λ files. Reads files task entry)
-    → ((value : ℤ) → as_short entry.value ≢ int value) → IfSome content (λ files. Why files task input Missing)
-no_int_why task input None entry reads none = tt
-no_int_why task input (Some files) entry reads none = λ other value own.
-    let same : other ≡ entry = one_entry files task other entry own.reads reads in
-    none value (ap (λ (e : Entry). as_short e.value) (sym same) ∙ own.holds)
+    → entry.input ≡ input → HoldsNoInt entry → IfSome content (λ files. Why files task input Missing)
+no_int_why task input None entry reads same none = tt
+no_int_why task input (Some files) entry reads same none = λ other own.
+    let is : other ≡ entry = one_entry files task other entry own reads in
+    subst (λ (e : Entry). (e.input ≡ input) × HoldsNoInt e) (sym is) (same, none)
 
 -- an entry of another input hash
-pub other_why : (task input : List ℕ) (content : Option Files) (entry : Entry) (value : ℤ) → IfSome content (λ files. Reads files task entry)
-    → as_short entry.value ≡ int value → entry.input ≢ input → IfSome content (λ files. Why files task input (Other entry.input))
-other_why task input None entry value reads holds differs = tt
-other_why task input (Some files) entry value reads holds differs =
-    let own : ReadsInt files task entry value = record { reads = reads; holds = holds } in
-    (differs, (entry, value, own, refl))
+pub other_why : (task input : List ℕ) (content : Option Files) (entry : Entry) → IfSome content (λ files. Reads files task entry)
+    → entry.input ≢ input → IfSome content (λ files. Why files task input (Other entry.input))
+other_why task input None entry reads differs = tt
+other_why task input (Some files) entry reads differs = (differs, (entry, reads, refl))
 
 -- an entry of this input hash
 pub same_why : (task input : List ℕ) (content : Option Files) (entry : Entry) (value : ℤ) → IfSome content (λ files. Reads files task entry)

@@ -72,8 +72,8 @@ module _ (task : List ℕ) (old new : Files) (here : get new (entry_name task) �
   reads_back entry value own = record { reads = reads_along old new task entry here own.reads; holds = own.holds }
 
   why_back : (input : List ℕ) (found : Found) → Why new task input found → Why old task input found
-  why_back input Missing why = λ entry value own. why entry value (record { reads = reads_along new old task entry (sym here) own.reads; holds = own.holds })
-  why_back input (Other d) (differs, (entry, value, own, is)) = (differs, (entry, value, reads_back entry value own, is))
+  why_back input Missing why = λ entry reads. why entry (reads_along new old task entry (sym here) reads)
+  why_back input (Other d) (differs, (entry, reads, is)) = (differs, (entry, reads_along old new task entry here reads, is))
   why_back input (Same d) (same, (entry, value, own, is)) = (same, (entry, value, reads_back entry value own, is))
 
 some_back : (P Q : Files → Type 0) (old new : Option Files) (name : List ℕ) → at_name name new ≡ at_name name old
@@ -271,6 +271,6 @@ next_at inputs plan numbers numbers_mid old mid takes i d before within ready wa
     (sym (ap (at_name (entry_name name)) here.out ∙ same))
     (λ f g e (number, next). (number, next_along numbers_mid numbers name number (λ n. let iff = here.others name n link.fresh in (iff.1, iff.0)) next)) (ready.next name)
 
-pub on_err : (result : Result (Option ℤ) OutFault) (P : Type 0) → P → OnErr result P
+pub on_err : {T E : Type 0} (result : Result T E) (P : Type 0) → P → OnErr result P
 on_err (Ok value) P p = tt
 on_err (Err refused) P p = p

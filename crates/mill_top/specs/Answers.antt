@@ -133,7 +133,3 @@ all_texts inputs runs = flat_map texts (planned_runs inputs (asked inputs.words)
 -- the reply from scratch, or the store failed, or memory was wanted
 abbrev pub IsFromScratch : Record → Reply → Type 0
 IsFromScratch inputs reply = IsReplyOf inputs reply ⊎ IsUnlessMemory reply StoreFault
-
--- the pair that a device keeps is as it was, or its content and count at entry
-abbrev pub IsKept : {T : Type 0} → (before after : T × ℕ) → T → ℕ → Type 0
-IsKept before after content count = (after ≡ before) ⊎ (after ≡ (content, count))

@@ -14,6 +14,7 @@ pub mod Replies
 pub mod Standing
 pub mod Leaving
 pub mod Answers
+pub mod Commands
 pub mod Walks
 pub mod Replays
 pub mod Stages

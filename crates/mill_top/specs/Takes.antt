@@ -22,11 +22,15 @@ pub record ReadsInt (files : Files) (task : List ℕ) (entry : Entry) (value : �
   pub reads : Reads files task entry
   pub holds : as_short entry.value ≡ int value
 
--- The reason among the files: no entry of the task reads and holds an int, or one of another input hash does, or one of
--- this hash.
+-- the entry holds no int
+abbrev pub HoldsNoInt : Entry → Type 0
+HoldsNoInt entry = (value : ℤ) → as_short entry.value ≢ int value
+
+-- The reason among the files: an entry of another input hash reads, or one of this hash that holds an int, or neither, so
+-- that no entry reads but one of this hash that holds no int.
 abbrev pub Why : Files → (task input : List ℕ) → Found → Type 0
-Why files task input Missing = (entry : Entry) (value : ℤ) → ReadsInt files task entry value → ⊥
-Why files task input (Other other) = (other ≢ input) × ((entry : Entry) × (value : ℤ) × ReadsInt files task entry value × (entry.input ≡ other))
+Why files task input Missing = (entry : Entry) → Reads files task entry → (entry.input ≡ input) × HoldsNoInt entry
+Why files task input (Other other) = (other ≢ input) × ((entry : Entry) × Reads files task entry × (entry.input ≡ other))
 Why files task input (Same same) = (same ≡ input) × ((entry : Entry) × (value : ℤ) × ReadsInt files task entry value × (entry.input ≡ same))
 
 -- no entry is reused

@@ -151,6 +151,7 @@ pub fn evaluate<S: Store>(
     requires ready { IsReady out.old.numbers (S.content out.old.store) }
     ensures answer { IsAnswerOfLoaded inputs.now task.now (S.faults out.old.store) (S.faults out.new.store) out.old.numbers (S.content out.old.store) (S.content out.new.store) result.reply result.takes }
     ensures stands { (runs : List Run) (lost : List (List ℕ)) → StandsIn (S.content out.old.store) runs lost → Clean (all_texts inputs.now runs) → StandsIn (S.content out.new.store) (runs ++ runs_of inputs.now result.takes) lost }
+    ensures later { S.faults out.old.store ≤ S.faults out.new.store }
     ensures kept { S.kept out.new.store ≡ S.kept out.old.store }
 {
     let mut takes = Takes::none(alloc);

@@ -110,9 +110,9 @@ where
     let alloc = rt.alloc();
     let sink = RealSink::over(io::writer(rt));
     match hand_over(rt) {
-        Err(reply) => refuse(alloc, sink, reply),
+        Err(reply) => refuse(alloc, sink, reply).status,
         Ok(handed) => match devices(rt, process) {
-            Err(_) => refuse(alloc, sink, Reply::Memory),
+            Err(_) => refuse(alloc, sink, Reply::Memory).status,
             Ok((store, workspace)) => {
                 mill_one(
                     alloc,

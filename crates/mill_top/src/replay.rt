@@ -1,12 +1,11 @@
 //! Scripts of edits, losses and commands, over devices in memory.
 
-ghost use Rattle.std.specs.Prelude.{◌≡◌, ◌<◌, ◌⊎◌, ◌∷◌, ◌++◌, [], vec_len, vec_capacity, OnOk, OnErr, Ok, Err};
+ghost use Rattle.std.specs.Prelude.{◌≡◌, ◌≢◌, ◌<◌, ◌⊎◌, ◌∷◌, ◌++◌, [], vec_len, vec_capacity, IfOk, OnOk, OnErr, Ok, Err};
 ghost use Rattle.io_traits.specs.Planned.{set_to};
 ghost use Rattle.mill_top.specs.Replays.{IsReplay};
-ghost use Rattle.mill_top.specs.Stages.{IsAsBefore, HasRun, Makes};
+ghost use Rattle.mill_top.specs.Stages.{IsAsBefore, IsFirst, HasRun, HasRunTo, HasShown, Makes, MakesWhole};
 
-use crate::replay_steps::{ReplayFault, ReplayStep, Replayed};
-use crate::reply::Reply;
+use crate::replay_steps::{Answered, ReplayFault, ReplayStep, Replayed};
 use crate::takes::Takes;
 use crate::top::{Told, mill_one};
 use io_traits::{MemSink, MemStore, MemWorkspace};
@@ -19,7 +18,7 @@ struct Stage {
     store: MemStore,
     workspace: MemWorkspace,
     takes: Vec<Takes>,
-    replies: Vec<Reply>,
+    replies: Vec<Answered>,
 }
 
 fn edit(workspace: &mut MemWorkspace, path: &Path, bytes: &Option<Bytes>) -> Result<(), ReplayFault>
@@ -40,6 +39,7 @@ impl Stage {
         ensures rests { IsAsBefore self.old self.new }
         ensures takes_room { OnOk result (vec_len self.new.takes < vec_capacity self.new.takes) }
         ensures replies_room { OnOk result (vec_len self.new.replies < vec_capacity self.new.replies) }
+        ensures sink { IfOk result IsFirst }
     {
         self.takes.reserve(1)?;
         self.replies.reserve(1)?;
@@ -58,7 +58,8 @@ impl Stage {
     ) -> (Stage, u8)
         requires takes_room { vec_len self.takes < vec_capacity self.takes }
         requires replies_room { vec_len self.replies < vec_capacity self.replies }
-        ensures { HasRun words.now environment.now moment self result.0 }
+        requires sink { IsFirst sink }
+        ensures { HasRunTo result.1 words.now environment.now moment self result.0 }
     {
         let Stage {
             store,
@@ -82,10 +83,14 @@ impl Stage {
             inputs: _,
             store,
             workspace,
-            sink: _,
+            sink,
         } = told;
         takes.push_reserved(taken);
-        replies.push_reserved(reply);
+        replies.push_reserved(Answered {
+            reply,
+            status,
+            sink,
+        });
         let stage = Stage {
             store,
             workspace,
@@ -102,7 +107,7 @@ impl Stage {
         environment: &Vars,
         moment: u64,
     ) -> (Stage, Result<(), ReplayFault>)
-        ensures ok { OnOk result.1 (HasRun words.now environment.now moment self result.0) }
+        ensures ok { OnOk result.1 (HasShown words.now environment.now moment self result.0) }
         ensures err { OnErr result.1 (IsAsBefore self result.0 ⊎ HasRun words.now environment.now moment self result.0) }
     {
         match self.ready(alloc) {
@@ -116,7 +121,7 @@ impl Stage {
 
     // Makes a step, or leaves all as it was; a command that was run but not shown is made too.
     fn make(mut self, alloc: Global, step: &ReplayStep) -> (Stage, Result<(), ReplayFault>)
-        ensures ok { OnOk result.1 (Makes step.now self result.0) }
+        ensures ok { OnOk result.1 (MakesWhole step.now self result.0) }
         ensures err { OnErr result.1 (IsAsBefore self result.0 ⊎ Makes step.now self result.0) }
     {
         match step {
@@ -162,7 +167,9 @@ impl Stage {
 }
 
 // A sink in memory fails only where memory is wanted.
-fn shown(status: u8) -> Result<(), ReplayFault> {
+fn shown(status: u8) -> Result<(), ReplayFault>
+    ensures { OnOk result (status ≢ 7) }
+{
     if status == 7 {
         Err(ReplayFault::Memory)
     } else {

@@ -5,7 +5,7 @@ ghost use Rattle.mill_top.specs.declared.replay_steps.ReplayFault.TheVariants.{M
 
 use crate::reply::Reply;
 use crate::takes::Takes;
-use io_traits::{IoFault, MemStore, MemWorkspace};
+use io_traits::{IoFault, MemSink, MemStore, MemWorkspace};
 use std::alloc::AllocError;
 use tree_value::{Bytes, CopyFault, Lines, Path, Sequence, Vars};
 
@@ -55,13 +55,30 @@ impl From<IoFault> for ReplayFault {
     }
 }
 
-/// Replies to commands, in the order of the commands.
-pub type Replies = Sequence<Reply>;
+/// What a command was answered: the reply, the status that it ended with, and the sink that it was given.
+#[derive(Drop)]
+pub struct Answered {
+    pub reply: Reply,
+    pub status: u8,
+    pub sink: MemSink,
+}
+
+impl Answered {
+    /// The lines that were shown, each with its line feed.
+    pub fn lines(&self) -> &[u8]
+        ensures { result.now ≡ self.now.sink.bytes.items }
+    {
+        self.sink.as_slice()
+    }
+}
+
+/// Answers to commands, in the order of the commands.
+pub type Replies = Sequence<Answered>;
 
 /// What the commands took, in the order of the commands.
 pub type TakesOfRuns = Sequence<Takes>;
 
-/// What a script ends with: the devices, the takes of each command that was run, and the reply to each command, where
+/// What a script ends with: the devices, the takes of each command that was run, and the answer to each command, where
 /// every step was made.
 #[derive(Drop)]
 pub struct Replayed {

@@ -1,13 +1,9 @@
 //! Scripts over devices in memory, row by row.
 
 use crate::linked_file::{INPUT_AT, LINKED_TEMPLATE};
-use crate::printing::printed;
 use crate::replay::replay;
-use crate::replay_steps::{ReplayStep, Replayed};
-use crate::reply::Reply;
+use crate::replay_steps::{Answered, ReplayStep, Replayed};
 use crate::small_file::{CLASS_AT, OPCODE_AT, SMALL_TEMPLATE, TASK_AT};
-use crate::takes::Takes;
-use crate::words::explains;
 use io_traits::{Contents, MemStore, MemWorkspace};
 use std::alloc::{AllocGlobal, Global};
 use std::process::Abort;
@@ -113,35 +109,9 @@ fn run(alloc: Global, rows: &[Row]) -> Result<Replayed, Fail> {
     Ok(replay(alloc, script.as_slice(), store, workspace))
 }
 
-fn text(alloc: Global, all: &[&str], takes: &Takes, reply: &Reply) -> Result<Vec<u8>, Fail> {
-    let words = words(alloc, all)?;
-    Ok(printed(alloc, explains(words.as_slice()), takes, reply)?)
-}
-
-// What a command took and was answered, where both are there.
-fn answer<'a>(
-    replies: &'a [Reply],
-    takes: &'a [Takes],
-    at: usize,
-) -> Result<(&'a Reply, &'a Takes), Fail> {
-    match (replies.get(at), takes.get(at)) {
-        (Some(reply), Some(taken)) => Ok((reply, taken)),
-        _ => Err("an answer is missing")?,
-    }
-}
-
-fn judge_command<R: Abort + AllocGlobal>(
-    rt: &R,
-    all: &[&str],
-    status: u8,
-    want: &str,
-    taken: &Takes,
-    reply: &Reply,
-) -> Result<(), Fail> {
-    assert_eq!(*rt; reply.status(), status, "status of {want}");
-    let text = text(rt.alloc(), all, taken, reply)?;
-    assert_eq!(*rt; text.as_slice(), want.as_bytes(), "print of {want}");
-    Ok(())
+fn judge_command<R: Abort>(rt: &R, status: u8, want: &str, answered: &Answered) {
+    assert_eq!(*rt; answered.status, status, "status of {want}");
+    assert_eq!(*rt; answered.lines(), want.as_bytes(), "print of {want}");
 }
 
 fn judge<R: Abort + AllocGlobal>(rt: &R, rows: &[Row]) -> Result<(), Fail> {
@@ -149,9 +119,11 @@ fn judge<R: Abort + AllocGlobal>(rt: &R, rows: &[Row]) -> Result<(), Fail> {
     let replies = replayed.end?;
     let mut at: usize = 0;
     for row in rows {
-        if let Row::Run(all, status, want) = *row {
-            let (reply, taken) = answer(replies.as_slice(), replayed.takes.as_slice(), at)?;
-            judge_command(rt, all, status, want, taken, reply)?;
+        if let Row::Run(_, status, want) = *row {
+            let Some(answered) = replies.as_slice().get(at) else {
+                return Err("an answer is missing")?;
+            };
+            judge_command(rt, status, want, answered);
             at = at.saturating_add(1);
         }
     }

@@ -9,7 +9,7 @@ use tree_value::{Digest, Text};
 /// What stood under a task's entry name.
 #[derive(Clone, Copy, Debug, PartialEq, Eq)]
 pub enum Found {
-    /// No entry that reads.
+    /// No entry that reads, or one of the task's input hash that holds no int, as no run leaves it.
     Missing,
     /// An entry of another input hash, which it names.
     Other(Digest),

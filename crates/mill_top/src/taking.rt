@@ -143,15 +143,13 @@ fn take_over<S: Store>(
     ensures cause { HasCause (S.faults out.old.store) (S.faults out.new.store) result }
     ensures kept { S.kept out.new.store ≡ S.kept out.old.store }
 {
-    match int_of(&entry.value) {
-        None => run_task(alloc, job, Found::Missing, out, takes),
-        Some(value) => {
-            if entry.input == job.input {
-                reuse(job, value, takes)
-            } else {
-                run_task(alloc, job, Found::Other(entry.input), out, takes)
-            }
+    if entry.input == job.input {
+        match int_of(&entry.value) {
+            Some(value) => reuse(job, value, takes),
+            None => run_task(alloc, job, Found::Missing, out, takes),
         }
+    } else {
+        run_task(alloc, job, Found::Other(entry.input), out, takes)
     }
 }
 

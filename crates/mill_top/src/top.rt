@@ -1,6 +1,6 @@
 //! The top call.
 
-ghost use Rattle.std.specs.Prelude.{◌≡◌, ◌⊎◌, ◌++◌, [], ℕ, List, take, Some, None, Option, IfOk, IfErr, IfSome, IsSome, IsNone, OnOk};
+ghost use Rattle.std.specs.Prelude.{◌≡◌, ◌⊎◌, ◌++◌, ◌≤◌, [], ℕ, List, take, false, Some, None, Option, IfOk, IfErr, IfSome, IsSome, IsNone, OnOk};
 ghost use Rattle.io_traits.specs.Causes.{Rose, HasCause};
 ghost use Rattle.io_traits.specs.Streams.{Got};
 ghost use Rattle.mill_top.specs.Graphs.{refusal_of_build, named, plan, plan_in};
@@ -10,7 +10,8 @@ ghost use Rattle.mill_top.specs.Replies.{status, build_reply, refusal, printed, 
 ghost use Rattle.mill_top.specs.Standing.{StandsIn};
 ghost use Rattle.mill_top.specs.Takes.{runs_of};
 ghost use Rattle.mill_top.specs.Walks.{IsReady};
-ghost use Rattle.mill_top.specs.Answers.{IsUnlessMemory, IsRecordOf, IsUnfound, IsUnread, IsAnswer, IsAnswerOfLoaded, IsAnswerTo, IsFromScratch, runs_in, all_texts, IsKept};
+ghost use Rattle.mill_top.specs.Answers.{IsUnlessMemory, IsRecordOf, IsUnfound, IsUnread, IsAnswer, IsAnswerOfLoaded, IsAnswerTo, all_texts};
+ghost use Rattle.mill_top.specs.Commands.{device, devices, command, IsCommand};
 
 use crate::build_fault::BuildFault;
 use crate::evaluating::{Taken, evaluate, store_reply};
@@ -100,6 +101,7 @@ fn taken_of_loaded<S: Store>(alloc: Global, inputs: &Record, task: &Text, out: &
     requires ready { IsReady out.old.numbers (S.content out.old.store) }
     ensures answer { IsAnswerOfLoaded inputs.now task.now (S.faults out.old.store) (S.faults out.new.store) out.old.numbers (S.content out.old.store) (S.content out.new.store) result.reply result.takes }
     ensures stands { (runs : List Run) (lost : List (List ℕ)) → StandsIn (S.content out.old.store) runs lost → Clean (all_texts inputs.now runs) → StandsIn (S.content out.new.store) (runs ++ runs_of inputs.now result.takes) lost }
+    ensures later { S.faults out.old.store ≤ S.faults out.new.store }
     ensures kept { S.kept out.new.store ≡ S.kept out.old.store }
 {
     match choose(alloc, inputs, task) {
@@ -113,6 +115,7 @@ fn taken<S: Store>(alloc: Global, inputs: &Record, task: &Text, out: &mut Out<S>
     requires ready { IsReady out.old.numbers (S.content out.old.store) }
     ensures answer { IsAnswer inputs.now task.now (S.faults out.old.store) (S.faults out.new.store) out.old.numbers (S.content out.old.store) (S.content out.new.store) result.reply result.takes }
     ensures stands { (runs : List Run) (lost : List (List ℕ)) → StandsIn (S.content out.old.store) runs lost → Clean (all_texts inputs.now runs) → StandsIn (S.content out.new.store) (runs ++ runs_of inputs.now result.takes) lost }
+    ensures later { S.faults out.old.store ≤ S.faults out.new.store }
     ensures kept { S.kept out.new.store ≡ S.kept out.old.store }
 {
     match load(alloc, &inputs.files) {
@@ -127,6 +130,7 @@ fn judge<S: Store>(alloc: Global, inputs: Record, task: &Text, mut out: Out<S>) 
     ensures inputs { result.inputs ≡ Some inputs }
     ensures answer { IsAnswer inputs task.now (S.faults out.store) (S.faults result.store) out.numbers (S.content out.store) (S.content result.store) result.reply result.takes }
     ensures stands { (runs : List Run) (lost : List (List ℕ)) → StandsIn (S.content out.store) runs lost → Clean (all_texts inputs runs) → StandsIn (S.content result.store) (runs ++ runs_of inputs result.takes) lost }
+    ensures later { S.faults out.store ≤ S.faults result.store }
     ensures kept { S.kept result.store ≡ S.kept out.store }
 {
     let Taken { reply, takes } = taken(alloc, &inputs, task, &mut out);
@@ -197,6 +201,8 @@ fn answer_opened<S: Store, W: Workspace>(
     ensures answer { IfSome result.inputs (λ inputs. IsAnswer inputs task.now (S.faults out.store) (S.faults result.store) out.numbers (S.content out.store) (S.content result.store) result.reply result.takes) }
     ensures stands { (runs : List Run) (lost : List (List ℕ)) → StandsIn (S.content out.store) runs lost → IfSome result.inputs (λ inputs. Clean (all_texts inputs runs) → StandsIn (S.content result.store) (runs ++ runs_of inputs result.takes) lost) }
     ensures workspace { W.content workspace.new ≡ W.content workspace.old }
+    ensures store_later { S.faults out.store ≤ S.faults result.store }
+    ensures workspace_later { W.faults workspace.old ≤ W.faults workspace.new }
     ensures kept_store { S.kept result.store ≡ S.kept out.store }
     ensures kept_workspace { W.kept workspace.new ≡ W.kept workspace.old }
 {
@@ -219,6 +225,8 @@ fn answer_words<S: Store, W: Workspace>(
     ensures answer { IfSome result.inputs (λ inputs. IsAnswerTo words.now inputs (S.faults store) (S.faults result.store) (S.content store) (S.content result.store) result.reply result.takes) }
     ensures stands { (runs : List Run) (lost : List (List ℕ)) → StandsIn (S.content store) runs lost → IfSome result.inputs (λ inputs. Clean (all_texts inputs runs) → StandsIn (S.content result.store) (runs ++ runs_of inputs result.takes) lost) }
     ensures workspace { W.content workspace.new ≡ W.content workspace.old }
+    ensures store_later { S.faults store ≤ S.faults result.store }
+    ensures workspace_later { W.faults workspace.old ≤ W.faults workspace.new }
     ensures kept_store { S.kept result.store ≡ S.kept store }
     ensures kept_workspace { W.kept workspace.new ≡ W.kept workspace.old }
 {
@@ -234,6 +242,7 @@ fn answer_words<S: Store, W: Workspace>(
 // Writes the text, and gives the status, or 7 where the sink failed.
 fn send_all<K: Sink>(sink: &mut K, text: &[u8], status: u8) -> u8
     ensures sent { ((result ≡ status) × Got (K.got sink.old) (K.got sink.new) text.now) ⊎ ((result ≡ 7) × Rose (K.faults sink.old) (K.faults sink.new) × ((n : ℕ) × Got (K.got sink.old) (K.got sink.new) (take n text.now))) }
+    ensures later { K.faults sink.old ≤ K.faults sink.new }
     ensures kept { K.kept sink.new ≡ K.kept sink.old }
 {
     match send(sink, text) {
@@ -255,6 +264,7 @@ fn show<K: Sink>(
     ensures reply { IsUnlessMemory result.1 reply }
     ensures shown { Shown (K.got sink.old) (K.got sink.new) (printed explains takes.now result.1) result.1 result.0 }
     ensures fault { result.0 ≡ 7 → Rose (K.faults sink.old) (K.faults sink.new) }
+    ensures later { K.faults sink.old ≤ K.faults sink.new }
     ensures kept { K.kept sink.new ≡ K.kept sink.old }
 {
     match printed(alloc, explains, takes, &reply) {
@@ -263,11 +273,31 @@ fn show<K: Sink>(
     }
 }
 
-/// Shows a reply alone, and gives the status.
-pub fn refuse<K: Sink + Drop>(alloc: Global, mut sink: K, reply: Reply) -> u8
-    ensures { (result ≡ status reply) ⊎ ((result ≡ 6) ⊎ (result ≡ 7)) }
+/// What a refusal ends with: its status, the reply that was shown, and the sink.
+#[derive(Drop)]
+pub struct Refused<K> {
+    pub status: u8,
+    pub reply: Reply,
+    pub sink: K,
+}
+
+/// Shows a reply alone. Where memory is wanted for its text, the reply that is shown is that.
+pub fn refuse<K: Sink>(alloc: Global, mut sink: K, reply: Reply) -> Refused<K>
+    ensures reply { IsUnlessMemory result.reply reply }
+
+    // The sink has the reply's line behind what it had, and the status is the reply's; or a front part of it, and the
+    // status is 7, only where the sink's count rose.
+    ensures shown { Shown (K.got sink) (K.got result.sink) (printed false [] result.reply) result.reply result.status }
+    ensures sink_fault { result.status ≡ 7 → Rose (K.faults sink) (K.faults result.sink) }
+    ensures later { K.faults sink ≤ K.faults result.sink }
+    ensures kept { K.kept result.sink ≡ K.kept sink }
 {
-    show(alloc, &mut sink, false, &Takes::none(alloc), reply).0
+    let (status, reply) = show(alloc, &mut sink, false, &Takes::none(alloc), reply);
+    Refused {
+        status,
+        reply,
+        sink,
+    }
 }
 
 /// Runs one command over its devices, on this thread.
@@ -291,33 +321,16 @@ pub fn mill_one<S: Store, W: Workspace, K: Sink>(
     mut workspace: W,
     mut sink: K,
 ) -> Told<S, W, K>
-    // The sink has the reply behind what it had, and the status is the reply's; or a front part of it, and the status
-    // is 7, only where the sink's count rose.
-    ensures shown { Shown (K.got sink) (K.got result.sink) (printed (explains words.now) result.takes result.reply) result.reply result.status }
-    ensures sink_fault { result.status ≡ 7 → Rose (K.faults sink) (K.faults result.sink) }
-
-    // Without a record the words are refused, the opening of the store was refused, or the workspace failed, and nothing
-    // is taken.
-    ensures unread { IsNone result.inputs → IsUnread words.now (S.faults store) (S.faults result.store) (W.faults workspace) (W.faults result.workspace) (S.content store) (S.content result.store) result.reply result.takes }
-
-    // A record has what was handed in and what the workspace tells.
-    ensures record_of { IfSome result.inputs (IsRecordOf words.now environment.now moment (W.content workspace)) }
-
-    // With a record the store was opened: when each reply comes, the takes with their reasons and values, and what they
-    // leave in the store.
-    ensures answer { IfSome result.inputs (λ inputs. IsAnswerTo words.now inputs (S.faults store) (S.faults result.store) (S.content store) (S.content result.store) result.reply result.takes) }
-
-    // Where the store stands for runs and no texts collide, the reply is that of evaluation from scratch.
-    ensures from_scratch { (runs : List Run) (lost : List (List ℕ)) → StandsIn (S.content store) runs lost → IfSome result.inputs (λ inputs. Clean (all_texts inputs runs) → IsFromScratch inputs result.reply) }
-
-    // Afterwards it stands for these and the runs of this call, after a fault too.
-    ensures stands { (runs : List Run) (lost : List (List ℕ)) → StandsIn (S.content store) runs lost → IfSome result.inputs (λ inputs. Clean (all_texts inputs runs)) → StandsIn (S.content result.store) (runs ++ runs_in result.inputs result.takes) lost }
-
-    // The workspace tells what it told, and what each device keeps is as it was or as the device was handed in.
-    ensures workspace { W.content result.workspace ≡ W.content workspace }
-    ensures kept_store { IsKept (S.kept store) (S.kept result.store) (S.content store) (S.faults store) }
-    ensures kept_workspace { IsKept (W.kept workspace) (W.kept result.workspace) (W.content workspace) (W.faults workspace) }
-    ensures kept_sink { IsKept (K.kept sink) (K.kept result.sink) (K.got sink) (K.faults sink) }
+    ensures { IsCommand words.now environment.now moment
+        (devices
+        (device (S.content store) (S.faults store) (S.kept store))
+        (device (W.content workspace) (W.faults workspace) (W.kept workspace))
+        (device (K.got sink) (K.faults sink) (K.kept sink)))
+        (devices
+        (device (S.content result.store) (S.faults result.store) (S.kept result.store))
+        (device (W.content result.workspace) (W.faults result.workspace) (W.kept result.workspace))
+        (device (K.got result.sink) (K.faults result.sink) (K.kept result.sink)))
+        (command result.inputs result.takes result.reply result.status) }
 {
     let Answer {
         reply,

@@ -1,6 +1,6 @@
 use Rattle.std.proofs.Common.{OnOk, OnErr, ◌⊎◌, sym, subst}
 use Rattle.mill_top.specs.Replays.{IsReplay}
-use Rattle.mill_top.specs.Stages.{IsAsBefore, Makes}
+use Rattle.mill_top.specs.Stages.{IsAsBefore, Makes, MakesWhole}
 use Rattle.mill_top.proofs.StageLaws.{reached_first, reached_more, replay_whole, replay_broken}
 use Rattle.mill_top.proofs.replay.replay.Goals as goal
 
@@ -10,8 +10,8 @@ loop-step-init c =
 
 pub loop-step-preserved : goal.loop-step-preserved
 loop-step-preserved c =
-    let makes : Makes c.step-item.result c.loop-step.stage c.make-next.result.0 =
-    subst (λ end. OnOk end (Makes c.step-item.result c.loop-step.stage c.make-next.result.0)) c.in_default.is c.make-next.ensures.ok in
+    let makes : MakesWhole c.step-item.result c.loop-step.stage c.make-next.result.0 =
+    subst (λ end. OnOk end (MakesWhole c.step-item.result c.loop-step.stage c.make-next.result.0)) c.in_default.is c.make-next.ensures.ok in
     reached_more c.args.script.now c.args.store c.args.workspace c.loop-step.step-index c.step-item.result c.loop-step.stage c.make-next.result.0
     c.loop-step-test.true c.step-item.is makes c.loop-step.invariant
 
@@ -21,7 +21,7 @@ returns-in-Err c =
     subst (λ end. OnErr end (IsAsBefore c.loop-step.stage c.make-next.result.0 ⊎ Makes c.step-item.result c.loop-step.stage c.make-next.result.0)) c.in-Err.is c.make-next.ensures.err in
     subst (IsReplay c.args.script.now c.args.store c.args.workspace) (sym c.broken.ensures)
     (replay_broken c.args.script.now c.args.store c.args.workspace c.loop-step.step-index c.step-item.result c.loop-step.stage c.make-next.result.0 c.in-Err.fault
-    c.loop-step-test.true c.step-item.is left c.loop-step.invariant)
+    c.loop-step-test.true c.step-item.is left c.loop-step.invariant.0)
 
 pub returns : goal.returns
 returns c =

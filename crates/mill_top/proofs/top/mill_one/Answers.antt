@@ -1,31 +1,33 @@
+use Rattle.std.proofs.Common.{inl, sym}
 use Rattle.mill_top.proofs.TopLaws.{shown_answer_to, shown_unread, from_scratch_in, stands_in}
 use Rattle.mill_top.proofs.top.mill_one.Goals as goal
 
-pub returns-clause-unread : goal.returns-clause-unread
-returns-clause-unread g c = λ none.
-    shown_unread c.args.words.now (g.S.Store.faults c.args.store) (g.S.Store.faults c.answer_words-reply.result.store) (g.W.Workspace.faults c.args.workspace) (g.W.Workspace.faults c.answer_words-reply.new.workspace)
-    (g.S.Store.content c.args.store) (g.S.Store.content c.answer_words-reply.result.store) c.show-status.result.1 c.answer_words-reply.result.reply c.answer_words-reply.result.takes
-    c.show-status.ensures.reply (c.answer_words-reply.ensures.unread none)
-
-pub returns-clause-answer : goal.returns-clause-answer
-returns-clause-answer g c =
-    shown_answer_to c.args.words.now c.answer_words-reply.result.inputs (g.S.Store.faults c.args.store) (g.S.Store.faults c.answer_words-reply.result.store)
-    (g.S.Store.content c.args.store) (g.S.Store.content c.answer_words-reply.result.store) c.show-status.result.1 c.answer_words-reply.result.reply c.answer_words-reply.result.takes
-    c.show-status.ensures.reply c.answer_words-reply.ensures.answer
-
-pub returns-clause-from_scratch : goal.returns-clause-from_scratch
-returns-clause-from_scratch g c = λ runs lost stands.
-    from_scratch_in c.args.words.now c.args.environment.now c.args.moment (g.W.Workspace.content c.args.workspace) c.answer_words-reply.result.inputs
-    (g.S.Store.faults c.args.store) (g.S.Store.faults c.answer_words-reply.result.store) (g.S.Store.content c.args.store) (g.S.Store.content c.answer_words-reply.result.store)
-    c.show-status.result.1 c.answer_words-reply.result.takes runs lost c.answer_words-reply.ensures.inputs
-    (shown_answer_to c.args.words.now c.answer_words-reply.result.inputs (g.S.Store.faults c.args.store) (g.S.Store.faults c.answer_words-reply.result.store)
-    (g.S.Store.content c.args.store) (g.S.Store.content c.answer_words-reply.result.store) c.show-status.result.1 c.answer_words-reply.result.reply c.answer_words-reply.result.takes
-    c.show-status.ensures.reply c.answer_words-reply.ensures.answer)
-    stands
-
-pub returns-clause-stands : goal.returns-clause-stands
-returns-clause-stands g c = λ runs lost stands clean.
-    stands_in c.args.words.now c.answer_words-reply.result.inputs (g.S.Store.faults c.args.store) (g.S.Store.faults c.answer_words-reply.result.store)
-    (g.W.Workspace.faults c.args.workspace) (g.W.Workspace.faults c.answer_words-reply.new.workspace)
-    (g.S.Store.content c.args.store) (g.S.Store.content c.answer_words-reply.result.store) c.answer_words-reply.result.reply c.answer_words-reply.result.takes runs lost
-    c.answer_words-reply.ensures.unread (c.answer_words-reply.ensures.stands runs lost) stands clean
+pub returns : goal.returns
+returns g c =
+    let words = c.args.words.now in
+    let before = g.S.Store.faults c.args.store in
+    let now = g.S.Store.faults c.answer_words-reply.result.store in
+    let w = g.W.Workspace.faults c.args.workspace in
+    let v = g.W.Workspace.faults c.answer_words-reply.new.workspace in
+    let old = g.S.Store.content c.args.store in
+    let new = g.S.Store.content c.answer_words-reply.result.store in
+    let inputs = c.answer_words-reply.result.inputs in
+    let takes = c.answer_words-reply.result.takes in
+    let own = c.answer_words-reply.result.reply in
+    let reply = c.show-status.result.1 in
+    let answer = shown_answer_to words inputs before now old new reply own takes c.show-status.ensures.reply c.answer_words-reply.ensures.answer in
+    record {
+      shown = rw (sym c.explains.ensures) c.show-status.ensures.shown;
+      sink_fault = c.show-status.ensures.fault;
+      unread = λ none. shown_unread words before now w v old new reply own takes c.show-status.ensures.reply (c.answer_words-reply.ensures.unread none);
+      record_of = c.answer_words-reply.ensures.inputs;
+      answer = answer;
+      from_scratch = λ runs lost stands.
+          from_scratch_in words c.args.environment.now c.args.moment (g.W.Workspace.content c.args.workspace) inputs before now old new reply takes runs lost c.answer_words-reply.ensures.inputs answer stands;
+      stands = λ runs lost stands clean.
+          stands_in words inputs before now w v old new own takes runs lost c.answer_words-reply.ensures.unread (c.answer_words-reply.ensures.stands runs lost) stands clean;
+      workspace = c.answer_words-reply.ensures.workspace;
+      store_counted = record { later = c.answer_words-reply.ensures.store_later; kept = inl c.answer_words-reply.ensures.kept_store };
+      workspace_counted = record { later = c.answer_words-reply.ensures.workspace_later; kept = inl c.answer_words-reply.ensures.kept_workspace };
+      sink_counted = record { later = c.show-status.ensures.later; kept = inl c.show-status.ensures.kept };
+    }
