@@ -2,6 +2,12 @@
 //! definition, and takes no memory.
 #![tactic(auto)]
 
+mod branches;
+mod frame_end;
+mod locals;
 mod numbers;
 
+pub use branches::{branch_if_int, branch_if_ints, branch_if_null, branch_if_references};
+pub use frame_end::FrameEnd;
+pub use locals::{increment, load, store};
 pub use numbers::{ArithEnd, plain};

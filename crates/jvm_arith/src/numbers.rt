@@ -81,13 +81,22 @@ fn give_long(stack: &mut Operands, n: i64) -> ArithEnd
     }
 }
 
-// The upper value first, as in the two functions below.
-fn take_ints(stack: &mut Operands) -> Option<(i32, i32)>
+// The upper value first, as in the three functions below.
+pub(crate) fn take_ints(stack: &mut Operands) -> Option<(i32, i32)>
     ensures { all_taken (values.Int ∷ values.Int ∷ []) stack.old
         ≡ option_map (λ two. ((two.0, (two.1, tt)), stack.new)) result }
 {
     let upper = stack.take_int()?;
     let lower = stack.take_int()?;
+    Some((upper, lower))
+}
+
+pub(crate) fn take_references(stack: &mut Operands) -> Option<(u32, u32)>
+    ensures { all_taken (values.Reference ∷ values.Reference ∷ []) stack.old
+        ≡ option_map (λ two. ((two.0, (two.1, tt)), stack.new)) result }
+{
+    let upper = stack.take_reference()?;
+    let lower = stack.take_reference()?;
     Some((upper, lower))
 }
 
