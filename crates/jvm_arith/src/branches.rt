@@ -64,7 +64,12 @@ pub fn branch_if_ints(test: Test, target: u32, locals: &Slots, stack: &mut Opera
 
 /// Goes to a target where two references are the same, or where they aren't.
 #[tactic(auto, unfolding(jvm_model::specs::Working::references_compared))]
-pub fn branch_if_references(same: bool, target: u32, locals: &Slots, stack: &mut Operands) -> FrameEnd
+pub fn branch_if_references(
+    same: bool,
+    target: u32,
+    locals: &Slots,
+    stack: &mut Operands,
+) -> FrameEnd
     ensures { references_compared same target (work locals.now stack.old) ≡ ended_of result (work locals.now stack.new) }
 {
     match take_references(stack) {

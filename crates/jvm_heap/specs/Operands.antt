@@ -16,6 +16,14 @@ with_slots o slots = record { slots = slots; limit = o.limit }
 unfoldable pub pushed : Slot → Operands → Option Operands
 pushed slot o = if nat_lt (length o.slots) o.limit then Some (with_slots o (slot ∷ o.slots)) else None
 
+abbrev pub top_of : List Slot → Option (Slot × List Slot)
+top_of [] = None
+top_of (slot ∷ slots) = Some (slot, slots)
+
+-- the slot on top, whatever it holds, and what is left
+unfoldable pub popped : Operands → Option (Slot × Operands)
+popped o = option_map (λ found. (found.0, with_slots o found.1)) (top_of o.slots)
+
 -- the values of a kind
 abbrev pub ValueOf : ValueKind → Type 0
 ValueOf values.Int = ℤ

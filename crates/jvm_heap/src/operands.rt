@@ -2,7 +2,7 @@
 
 ghost use Rattle.std.specs.Prelude.{◌≡◌, [], None, Some, IfOk, option_map, if◌then◌else◌};
 ghost use Rattle.jvm_tables.specs.declared.instruction.ValueKind.TheVariants as values;
-ghost use Rattle.jvm_heap.specs.Operands.{pushed, taken};
+ghost use Rattle.jvm_heap.specs.Operands.{pushed, popped, taken};
 
 use crate::slot::Slot;
 use std::alloc::{AllocError, Global};
@@ -48,6 +48,18 @@ impl Operands {
         } else {
             false
         }
+    }
+
+    /// Takes the slot on top, whatever it holds: it may be half of a long.
+    #[tactic(auto, unfolding(crate::specs::Operands::popped))]
+    pub fn pop(&mut self) -> Option<Slot>
+        ensures { popped self.old ≡ option_map (λ slot. (slot, self.new)) result }
+    {
+        if self.depth == 0 {
+            return None;
+        }
+        self.depth -= 1;
+        Some(self.slots[self.depth])
     }
 
     /// Takes an int, where one is on top.

@@ -6,7 +6,7 @@ use Rattle.jvm_tables.specs.declared.instruction.ValueKind.{ValueKind}
 use Rattle.jvm_tables.specs.declared.instruction.ValueKind.TheVariants as values
 use Rattle.jvm_heap.specs.declared.slot.Slot.{Slot}
 use Rattle.jvm_heap.specs.declared.slot.Slot.TheVariants.{Top, Int, Long, Ref}
-use Rattle.jvm_heap.specs.Operands.{Operands, with_slots, pushed, ValueOf, taken, all_taken, given}
+use Rattle.jvm_heap.specs.Operands.{Operands, pushed, popped, ValueOf, taken, all_taken, given}
 use Rattle.native_model.specs.Thrown.{Thrown}
 use Rattle.native_model.specs.Table.{value_in}
 use Rattle.jvm_model.specs.declared.action.Test.{Test}
@@ -60,36 +60,46 @@ incremented at by w =
     option_and_then (λ n. option_map (λ locals. next (work locals w.operands)) (with_local at (Int (int_wrapping_add w32 n by)) w.locals))
     (option_and_then (value_in values.Int) (slice_get w.locals at))
 
--- Slots on top are repeated, and the copy is put beneath them and beneath so many more (JVMS 6.5, dup and its like).
-abbrev pub repeated : ℕ → ℕ → List Slot → Option (List Slot)
-repeated count beneath slots =
-    if nat_le (count + beneath) (length slots)
-    then Some (take (count + beneath) slots ++ take count slots ++ drop (count + beneath) slots)
-    else None
+-- slots are put back, the last on top
+abbrev pub pushed_all : List Slot → Operands → Option Operands
+pushed_all [] o = Some o
+pushed_all (slot ∷ slots) o = option_and_then (pushed_all slots) (pushed slot o)
 
-abbrev pub dropped : ℕ → List Slot → Option (List Slot)
-dropped count slots = if nat_le count (length slots) then Some (drop count slots) else None
+-- two and three slots, the uppermost first, and what is left
+abbrev pub two_popped : Operands → Option ((Slot × Slot) × Operands)
+two_popped o = option_and_then (λ a. option_map (λ b. ((a.0, b.0), b.1)) (popped a.1)) (popped o)
 
-abbrev pub swapped : List Slot → Option (List Slot)
-swapped (a ∷ b ∷ slots) = Some (b ∷ a ∷ slots)
-swapped _ = None
+abbrev pub three_popped : Operands → Option ((Slot × Slot × Slot) × Operands)
+three_popped o = option_and_then (λ two. option_map (λ c. ((two.0.0, two.0.1, c.0), c.1)) (popped two.1)) (two_popped o)
 
-abbrev pub rearranged_slots : Rearrangement → List Slot → Option (List Slot)
-rearranged_slots rearrangements.Pop slots = dropped 1 slots
-rearranged_slots rearrangements.Pop2 slots = dropped 2 slots
-rearranged_slots rearrangements.Dup slots = repeated 1 0 slots
-rearranged_slots rearrangements.DupX1 slots = repeated 1 1 slots
-rearranged_slots rearrangements.DupX2 slots = repeated 1 2 slots
-rearranged_slots rearrangements.Dup2 slots = repeated 2 0 slots
-rearranged_slots rearrangements.Dup2X1 slots = repeated 2 1 slots
-rearranged_slots rearrangements.Dup2X2 slots = repeated 2 2 slots
-rearranged_slots rearrangements.Swap slots = swapped slots
+abbrev pub four_popped : Operands → Option ((Slot × Slot × Slot × Slot) × Operands)
+four_popped o =
+    option_and_then (λ three. option_map (λ d. ((three.0.0, three.0.1, three.0.2, d.0), d.1)) (popped three.1)) (three_popped o)
 
-abbrev pub within_limit : Operands → List Slot → Option Operands
-within_limit o slots = if nat_le (length slots) o.limit then Some (with_slots o slots) else None
+-- One to four slots are taken, and others given, written as in JVMS 6.5: the last is on top.
+abbrev pub of_one : (Slot → List Slot) → Operands → Option Operands
+of_one given o = option_and_then (λ found. pushed_all (given found.0) found.1) (popped o)
 
+abbrev pub of_two : (Slot → Slot → List Slot) → Operands → Option Operands
+of_two given o = option_and_then (λ found. pushed_all (given found.0.1 found.0.0) found.1) (two_popped o)
+
+abbrev pub of_three : (Slot → Slot → Slot → List Slot) → Operands → Option Operands
+of_three given o = option_and_then (λ found. pushed_all (given found.0.2 found.0.1 found.0.0) found.1) (three_popped o)
+
+abbrev pub of_four : (Slot → Slot → Slot → Slot → List Slot) → Operands → Option Operands
+of_four given o = option_and_then (λ found. pushed_all (given found.0.3 found.0.2 found.0.1 found.0.0) found.1) (four_popped o)
+
+-- JVMS 6.5, pop to swap; None where there are no such slots, or no room
 unfoldable pub rearranged : Rearrangement → Operands → Option Operands
-rearranged r o = option_and_then (within_limit o) (rearranged_slots r o.slots)
+rearranged rearrangements.Pop o = of_one (λ a. []) o
+rearranged rearrangements.Pop2 o = of_two (λ b a. []) o
+rearranged rearrangements.Dup o = of_one (λ a. a ∷ a ∷ []) o
+rearranged rearrangements.DupX1 o = of_two (λ b a. a ∷ b ∷ a ∷ []) o
+rearranged rearrangements.DupX2 o = of_three (λ c b a. a ∷ c ∷ b ∷ a ∷ []) o
+rearranged rearrangements.Dup2 o = of_two (λ b a. b ∷ a ∷ b ∷ a ∷ []) o
+rearranged rearrangements.Dup2X1 o = of_three (λ c b a. b ∷ a ∷ c ∷ b ∷ a ∷ []) o
+rearranged rearrangements.Dup2X2 o = of_four (λ d c b a. b ∷ a ∷ d ∷ c ∷ b ∷ a ∷ []) o
+rearranged rearrangements.Swap o = of_two (λ b a. a ∷ b ∷ []) o
 
 abbrev pub passes : Test → ℤ → ℤ → Bool
 passes tests.Eq a b = int_eq a b
