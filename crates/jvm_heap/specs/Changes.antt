@@ -23,16 +23,16 @@ with_units units _ = None
 
 -- an iterator at another element
 abbrev pub with_next : {C S : Type 0} → ℕ → Object C S → Option (Object C S)
-with_next next (iterator list old_next) = Some (iterator list next)
+with_next next (iterator list passed) = Some (iterator list next)
 with_next next _ = None
 
 -- a throwable with its message and its cause, and an enum with its name and its ordinal
 abbrev pub with_message : {C S : Type 0} → ℕ → ℕ → Object C S → Option (Object C S)
-with_message message cause (throwable class fields old_message old_cause) = Some (throwable class fields message cause)
+with_message message cause (throwable class fields text reason) = Some (throwable class fields message cause)
 with_message message cause _ = None
 
 abbrev pub with_name : {C S : Type 0} → ℕ → ℤ → Object C S → Option (Object C S)
-with_name name ordinal (enumerated class fields old_name old_ordinal) = Some (enumerated class fields name ordinal)
+with_name name ordinal (enumerated class fields text number) = Some (enumerated class fields name ordinal)
 with_name name ordinal _ = None
 
 -- there is an object of a number that has such a change

@@ -138,31 +138,31 @@ impl Object {
         }
     }
 
-    pub(crate) fn set_message(&mut self, new_message: u32, new_cause: u32)
-        requires { IsSome (with_message new_message new_cause self.old) }
-        ensures changed { with_message new_message new_cause self.old ≡ Some self.new }
+    pub(crate) fn set_message(&mut self, text: u32, reason: u32)
+        requires { IsSome (with_message text reason self.old) }
+        ensures changed { with_message text reason self.old ≡ Some self.new }
         ensures cells { cells_of self.new ≡ cells_of self.old }
     {
         match &mut self.content {
             Content::Throwable { message, cause, .. } => {
-                *message = new_message;
-                *cause = new_cause;
+                *message = text;
+                *cause = reason;
             }
             _ => {}
         }
     }
 
-    pub(crate) fn set_name(&mut self, new_name: u32, new_ordinal: i32)
-        requires { IsSome (with_name new_name new_ordinal self.old) }
-        ensures changed { with_name new_name new_ordinal self.old ≡ Some self.new }
+    pub(crate) fn set_name(&mut self, text: u32, number: i32)
+        requires { IsSome (with_name text number self.old) }
+        ensures changed { with_name text number self.old ≡ Some self.new }
         ensures cells { cells_of self.new ≡ cells_of self.old }
     {
         match &mut self.content {
-            Content::Enumerated { name, .. } => *name = new_name,
+            Content::Enumerated { name, .. } => *name = text,
             _ => {}
         }
         match &mut self.content {
-            Content::Enumerated { ordinal, .. } => *ordinal = new_ordinal,
+            Content::Enumerated { ordinal, .. } => *ordinal = number,
             _ => {}
         }
     }

@@ -20,69 +20,61 @@ pub record Case : Type 0 where
   pub wanted : List ℕ
   pub answer : Values kinds → Progress → World → Answer
 
-abbrev pub R : ValueKind
-R = values.Reference
-
-abbrev pub I : ValueKind
-I = values.Int
-
-abbrev pub J : ValueKind
-J = values.Long
-
--- natives that call nothing back, by their arguments
+-- natives that call nothing back, by their arguments: r a reference, i an int and j a long, as in descriptors
+-- (JVMS 4.3.2)
 abbrev pub none : (World → Answer) → Case
 none f = record { kinds = []; wanted = []; answer = λ v p w. f w }
 
 abbrev pub of_r : List ℕ → (ℕ → World → Answer) → Case
-of_r wanted f = record { kinds = R ∷ []; wanted = wanted; answer = λ v p w. f v.0 w }
+of_r wanted f = record { kinds = values.Reference ∷ []; wanted = wanted; answer = λ v p w. f v.0 w }
 
 abbrev pub of_i : (ℤ → World → Answer) → Case
-of_i f = record { kinds = I ∷ []; wanted = []; answer = λ v p w. f v.0 w }
+of_i f = record { kinds = values.Int ∷ []; wanted = []; answer = λ v p w. f v.0 w }
 
 abbrev pub of_j : (ℤ → World → Answer) → Case
-of_j f = record { kinds = J ∷ []; wanted = []; answer = λ v p w. f v.0 w }
+of_j f = record { kinds = values.Long ∷ []; wanted = []; answer = λ v p w. f v.0 w }
 
 abbrev pub of_rr : List ℕ → (ℕ → ℕ → World → Answer) → Case
-of_rr wanted f = record { kinds = R ∷ R ∷ []; wanted = wanted; answer = λ v p w. f v.0 v.1.0 w }
+of_rr wanted f = record { kinds = values.Reference ∷ values.Reference ∷ []; wanted = wanted; answer = λ v p w. f v.0 v.1.0 w }
 
 abbrev pub of_ri : (ℕ → ℤ → World → Answer) → Case
-of_ri f = record { kinds = R ∷ I ∷ []; wanted = []; answer = λ v p w. f v.0 v.1.0 w }
+of_ri f = record { kinds = values.Reference ∷ values.Int ∷ []; wanted = []; answer = λ v p w. f v.0 v.1.0 w }
 
 abbrev pub of_rj : (ℕ → ℤ → World → Answer) → Case
-of_rj f = record { kinds = R ∷ J ∷ []; wanted = []; answer = λ v p w. f v.0 v.1.0 w }
+of_rj f = record { kinds = values.Reference ∷ values.Long ∷ []; wanted = []; answer = λ v p w. f v.0 v.1.0 w }
 
 abbrev pub of_ii : (ℤ → ℤ → World → Answer) → Case
-of_ii f = record { kinds = I ∷ I ∷ []; wanted = []; answer = λ v p w. f v.0 v.1.0 w }
+of_ii f = record { kinds = values.Int ∷ values.Int ∷ []; wanted = []; answer = λ v p w. f v.0 v.1.0 w }
 
 abbrev pub of_jj : (ℤ → ℤ → World → Answer) → Case
-of_jj f = record { kinds = J ∷ J ∷ []; wanted = []; answer = λ v p w. f v.0 v.1.0 w }
+of_jj f = record { kinds = values.Long ∷ values.Long ∷ []; wanted = []; answer = λ v p w. f v.0 v.1.0 w }
 
 abbrev pub of_rii : (ℕ → ℤ → ℤ → World → Answer) → Case
-of_rii f = record { kinds = R ∷ I ∷ I ∷ []; wanted = []; answer = λ v p w. f v.0 v.1.0 v.1.1.0 w }
+of_rii f = record { kinds = values.Reference ∷ values.Int ∷ values.Int ∷ []; wanted = []; answer = λ v p w. f v.0 v.1.0 v.1.1.0 w }
 
 abbrev pub of_rir : (ℕ → ℤ → ℕ → World → Answer) → Case
-of_rir f = record { kinds = R ∷ I ∷ R ∷ []; wanted = []; answer = λ v p w. f v.0 v.1.0 v.1.1.0 w }
+of_rir f = record { kinds = values.Reference ∷ values.Int ∷ values.Reference ∷ []; wanted = []; answer = λ v p w. f v.0 v.1.0 v.1.1.0 w }
 
 abbrev pub of_rri : (ℕ → ℕ → ℤ → World → Answer) → Case
-of_rri f = record { kinds = R ∷ R ∷ I ∷ []; wanted = []; answer = λ v p w. f v.0 v.1.0 v.1.1.0 w }
+of_rri f = record { kinds = values.Reference ∷ values.Reference ∷ values.Int ∷ []; wanted = []; answer = λ v p w. f v.0 v.1.0 v.1.1.0 w }
 
 abbrev pub of_rrr : (ℕ → ℕ → ℕ → World → Answer) → Case
-of_rrr f = record { kinds = R ∷ R ∷ R ∷ []; wanted = []; answer = λ v p w. f v.0 v.1.0 v.1.1.0 w }
+of_rrr f = record { kinds = values.Reference ∷ values.Reference ∷ values.Reference ∷ []; wanted = []; answer = λ v p w. f v.0 v.1.0 v.1.1.0 w }
 
 -- natives that call back, or need a file or names
 abbrev pub asking_r : List ℕ → (ℕ → Progress → World → Answer) → Case
-asking_r wanted f = record { kinds = R ∷ []; wanted = wanted; answer = λ v p w. f v.0 p w }
+asking_r wanted f = record { kinds = values.Reference ∷ []; wanted = wanted; answer = λ v p w. f v.0 p w }
 
 abbrev pub asking_rr : List ℕ → (ℕ → ℕ → Progress → World → Answer) → Case
-asking_rr wanted f = record { kinds = R ∷ R ∷ []; wanted = wanted; answer = λ v p w. f v.0 v.1.0 p w }
+asking_rr wanted f = record { kinds = values.Reference ∷ values.Reference ∷ []; wanted = wanted; answer = λ v p w. f v.0 v.1.0 p w }
 
 abbrev pub asking_rrr : List ℕ → (ℕ → ℕ → ℕ → Progress → World → Answer) → Case
-asking_rrr wanted f = record { kinds = R ∷ R ∷ R ∷ []; wanted = wanted; answer = λ v p w. f v.0 v.1.0 v.1.1.0 p w }
+asking_rrr wanted f = record { kinds = values.Reference ∷ values.Reference ∷ values.Reference ∷ []; wanted = wanted; answer = λ v p w. f v.0 v.1.0 v.1.1.0 p w }
 
 -- so many references
 abbrev pub references : ℕ → List ValueKind
 references zero = []
-references (suc n) = R ∷ references n
+references (suc n) = values.Reference ∷ references n
 
 abbrev pub all_references : (n : ℕ) → Values (references n) → List ℕ
 all_references zero v = []
