@@ -16,10 +16,10 @@ values-kinds_of ReferenceByConstant told made kinds e = cc
 values-kinds_of IntForEachDimension told made kinds e = cc
 values-kinds_of _ told made kinds e = e
 
-pub use_by_row : (row : OpRow) (takes gives : List ValueKind) → uses_constant row.constant ≡ false → kinds_of row.takes ≡ Some takes → kinds_of row.gives ≡ Some gives
+pub used_by_row : (row : OpRow) (takes gives : List ValueKind) → uses_constant row.constant ≡ false → kinds_of row.takes ≡ Some takes → kinds_of row.gives ≡ Some gives
     → (class : Class) (instr : Instr) → use_of class row instr ≡ Some (record { takes = takes; gives = gives })
 unfolding use_of
-use_by_row row takes gives none t g class instr =
+used_by_row row takes gives none t g class instr =
     let n : ℕ = number_of instr.second in
     rw none (ap (λ (o : Option (List ValueKind)). both o (values row.gives [] n)) (values-kinds_of row.takes [] n takes t)
     ∙ ap (both (Some takes)) (values-kinds_of row.gives [] n gives g))

@@ -1,5 +1,5 @@
 -- What instructions take and give where their constants say it (JVMS 6.5, 4.4).
-use Rattle.std.specs.Prelude.{ℕ, ℤ, pos, negsuc, Bool, true, false, ◌==◌, nat_le, List, [], ◌∷◌, length, take_while, replicate, Option, Some, None, option_map, option_and_then, option_to_list, if◌then◌else◌}
+use Rattle.std.specs.Prelude.{◌≡◌, ℕ, ℤ, pos, negsuc, Bool, true, false, ◌==◌, nat_le, List, [], ◌∷◌, length, take_while, replicate, Option, Some, None, option_map, option_and_then, option_to_list, if◌then◌else◌}
 use Rattle.std.specs.List.{list_any}
 use Rattle.std.specs.Str.{byte}
 use Rattle.jvm_tables.specs.declared.code.Instr.{Instr}
@@ -135,10 +135,17 @@ values operands.ReferenceByConstant told made = Some (Reference ∷ told)
 values operands.IntForEachDimension told made = Some (replicate made Int)
 values operands told made = kinds_of operands
 
+abbrev pub used : List ValueKind → List ValueKind → Use
+used takes gives = record { takes = takes; gives = gives }
+
 abbrev pub both : Option (List ValueKind) → Option (List ValueKind) → Option Use
 both None gives = None
 both (Some takes) None = None
-both (Some takes) (Some gives) = Some (record { takes = takes; gives = gives })
+both (Some takes) (Some gives) = Some (used takes gives)
+
+-- what the row of an instruction tells by itself: where it names no constant, and no operand wants more than the row
+abbrev pub use_by_row : OpRow → Option Use
+use_by_row row = if uses_constant row.constant then None else both (kinds_of row.takes) (kinds_of row.gives)
 
 -- What an instruction takes and gives. None where its constant is none that it may name, and for operands that
 -- neither the row nor a constant tells: slots of any kind, and floats.
@@ -146,6 +153,10 @@ unfoldable pub use_of : Class → OpRow → Instr → Option Use
 use_of class row instr =
     option_and_then (λ told. both (values row.takes told.takes (number_of instr.second)) (values row.gives told.gives (number_of instr.second)))
     (said class row instr)
+
+-- an instruction of the row takes and gives these, whatever its class and its operands
+abbrev pub IsUseOf : OpRow → List ValueKind → List ValueKind → Type 0
+IsUseOf row takes gives = (class : Class) (instr : Instr) → use_of class row instr ≡ Some (used takes gives)
 
 -- what the code tells of them
 abbrev pub if_told : Bool → List ValueKind → Option (List ValueKind)

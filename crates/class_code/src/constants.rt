@@ -7,7 +7,7 @@ ghost use Rattle.jvm_tables.specs.declared.instruction.ValueKind.TheVariants.{In
 ghost use Rattle.jvm_tables.specs.Agreement.{uses_constant};
 ghost use Rattle.class_model.specs.declared.class_file.Class.{Class};
 ghost use Rattle.class_code.specs.Descriptors.{descriptors_of, use_of_call};
-ghost use Rattle.class_code.specs.Constants.{number_of, constant_of, descriptor_at, name_at, is_bracket, dimensions_of, may_name, tags, descriptor_named, loaded, long_loaded, names_class, pushes, field_use, by_constant, said, values, use_of, if_told, use_if_told};
+ghost use Rattle.class_code.specs.Constants.{number_of, constant_of, descriptor_at, name_at, is_bracket, dimensions_of, may_name, tags, loaded, long_loaded, names_class, pushes, field_use, by_constant, said, values, used, use_of, use_by_row, IsUseOf, if_told, use_if_told};
 
 use crate::descriptors::{Descriptors, Told, told_of_named};
 use crate::types::push_some;
@@ -96,30 +96,6 @@ pub(crate) fn may_have(named: ConstantUse, tag: u8) -> bool
         ConstantUse::AnyMethod => tag == 10 || tag == 11,
         ConstantUse::InterfaceMethod => tag == 11,
         _ => false,
-    }
-}
-
-/// The descriptor of the member or the call site that a constant is, where the instruction may name it.
-pub fn descriptor_named<'a>(
-    named: ConstantUse,
-    pool: &'a Pool,
-    constant: &Constant,
-) -> Option<&'a [u8]>
-    ensures { option_copied result ≡ descriptor_named named pool.now constant.now }
-{
-    match constant {
-        Constant::Ref { tag, name_type, .. } => {
-            if may_have(named, *tag) {
-                descriptor_at(pool, *name_type)
-            } else {
-                None
-            }
-        }
-        Constant::InvokeDynamic { name_type, .. } => match named {
-            ConstantUse::CallSite => descriptor_at(pool, *name_type),
-            _ => None,
-        },
-        _ => None,
     }
 }
 
@@ -298,9 +274,10 @@ fn uses_constant(named: ConstantUse) -> bool
 }
 
 /// What an instruction takes and gives, where its row alone tells both.
-#[tactic(auto, using(crate::proofs::Uses::use_by_row))]
+#[tactic(auto, using(crate::proofs::Uses::used_by_row))]
 pub fn told_by_row(row: &OpRow) -> Option<(&'static [ValueKind], &'static [ValueKind])>
-    ensures { IfSome result (λ told. (class : Class) (instr : Instr) → use_of class row.now instr ≡ Some (record { takes = told.0.now; gives = told.1.now })) }
+    ensures told { option_map (λ told. used told.0.now told.1.now) result ≡ use_by_row row.now }
+    ensures alike { IfSome result (λ told. IsUseOf row.now told.0.now told.1.now) }
 {
     if uses_constant(row.constant) {
         return None;
@@ -351,8 +328,9 @@ impl Use {
         }
     }
 
-    /// Becomes what an instruction takes and gives, by what the texts of its class say. False where the instruction's constant is none that it may name,
-    /// and where neither its row nor a constant tells the values; then the buffers hold nothing of use.
+    /// Becomes what an instruction takes and gives, by what the texts of its class say. False where the
+    /// instruction's constant is none that it may name, and where neither its row nor a constant tells the
+    /// values; then the buffers hold nothing of use.
     #[tactic(auto, unfolding(crate::specs::Constants::use_of))]
     pub fn fill(
         &mut self,

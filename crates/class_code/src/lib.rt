@@ -21,8 +21,7 @@ mod types;
 pub use bootstraps::{bootstrap_at, known_arguments};
 pub use code::{CodeView, code_of, stack_map};
 pub use constants::{
-    Use, constant_of, descriptor_at, descriptor_named, dimensions_of, name_at, number_of,
-    told_by_row,
+    Use, constant_of, descriptor_at, dimensions_of, name_at, number_of, told_by_row,
 };
 pub use control::{covers, target};
 pub use descriptors::{
