@@ -14,7 +14,7 @@ use Rattle.jvm_heap.specs.declared.slot.Slot.{Slot}
 use Rattle.jvm_heap.specs.declared.slot.Slot.TheVariants.{Int, Long, Ref}
 use Rattle.native_model.specs.Texts.{truth_text, unit_of}
 use Rattle.native_model.specs.Worlds.{World}
-use Rattle.native_model.specs.Answers.{Answer, Progress, results, gives_text, calls}
+use Rattle.native_model.specs.Answers.{Answer, Progress, results, gives_text, or_mismatch, calls}
 use Rattle.native_model.specs.Lists.{texts_given}
 
 abbrev pub is_object : Slot → Bool
@@ -70,8 +70,8 @@ abbrev pub asked_or_joined : Answer → Option Slot → Answer
 asked_or_joined joined None = joined
 asked_or_joined joined (Some slot) = calls ToString (slot ∷ [])
 
--- None where a callback gave no text
-unfoldable pub concatenation_answer : List ℕ → List ℕ → List Named → List Slot → Progress → World → Option Answer
+-- What a callback gives as a text and isn't one is an object of another class than is wanted.
+unfoldable pub concatenation_answer : List ℕ → List ℕ → List Named → List Slot → Progress → World → Answer
 concatenation_answer descriptor recipe constants slots p w =
-    option_map (λ texts. asked_or_joined (joined_texts descriptor recipe constants slots w texts) (slice_get (filter is_object slots) p.answered))
-    (texts_given (results p) w)
+    or_mismatch (texts_given (results p) w)
+    (λ texts. asked_or_joined (joined_texts descriptor recipe constants slots w texts) (slice_get (filter is_object slots) p.answered))

@@ -61,7 +61,7 @@ arguments_checked at slots w = do
 -- what a native's frame answers
 abbrev pub answer_of : Called → List Slot → Progress → World → Option natives.Answer
 answer_of (native at) slots p w = native_answer at slots p w
-answer_of (concatenation descriptor recipe constants) slots p w = concatenation_answer descriptor recipe constants slots p w
+answer_of (concatenation descriptor recipe constants) slots p w = Some (concatenation_answer descriptor recipe constants slots p w)
 
 abbrev pub native_frame : Called → List Slot → Progress → NativeFrame
 native_frame called slots p = record { called = called; arguments = slots; progress = p }

@@ -1,5 +1,5 @@
 -- What a program answers to lookups, by walks over its plain list of classes.
-use Rattle.std.specs.Prelude.{ℕ, zero, suc, Bool, ◌&&◌, List, [], ◌∷◌, ◌++◌, length, map, filter_map, find, slice_get, codes, bytes_eq, Option, Some, None, option_map, option_and_then, unwrap_or, if◌then◌else◌}
+use Rattle.std.specs.Prelude.{ℕ, zero, suc, Bool, not, ◌&&◌, ◌||◌, List, [], ◌∷◌, ◌++◌, length, map, filter_map, find, slice_get, codes, bytes_eq, Option, Some, None, option_map, option_and_then, unwrap_or, if◌then◌else◌}
 use Rattle.std.specs.List.{list_any}
 use Rattle.class_model.specs.declared.attribute_forms.Attribute.{Attribute, out-Attribute}
 use Rattle.class_model.specs.declared.attribute_forms.Attribute.TheOpen.{Attribute-F}
@@ -11,7 +11,7 @@ use Rattle.class_model.specs.declared.identifiers.ClassId.TheVariants.{Own, Oute
 use Rattle.class_model.specs.declared.identifiers.MemberRef.{MemberRef}
 use Rattle.class_model.specs.Layers.{AttributeLayer}
 use Rattle.class_model.specs.Programs.{find_class}
-use Rattle.class_model.specs.Shape.{class_name, name_text, descriptor_text, is_static}
+use Rattle.class_model.specs.Shape.{class_name, name_text, descriptor_text, is_static, is_native, is_abstract}
 use Rattle.class_index.specs.declared.outline.Outline.{Outline}
 use Rattle.class_index.specs.Outlines.{outline}
 use Rattle.class_index.specs.Facts.{class_named, outline_at, superclass, is_interface_class}
@@ -70,10 +70,11 @@ static_field pool m =
     then Some (record { name = name_text pool m; descriptor = descriptor_text pool m; constant = constant_in pool m.attributes })
     else None
 
--- JVMS 2.9.2
+-- JVMS 2.9.2; one that is native or abstract has no code, so nothing of it runs
 abbrev pub is_initializer : Pool → Member → Bool
 is_initializer pool m =
-    is_static m.flags && bytes_eq (name_text pool m) (codes "<clinit>") && bytes_eq (descriptor_text pool m) (codes "()V")
+    is_static m.flags && not (is_native m.flags || is_abstract m.flags) && bytes_eq (name_text pool m) (codes "<clinit>")
+    && bytes_eq (descriptor_text pool m) (codes "()V")
 
 abbrev pub initialiser : Class → Initialiser
 initialiser c = record {

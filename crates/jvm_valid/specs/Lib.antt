@@ -1,0 +1,7 @@
+pub mod Values
+pub mod Heaps
+pub mod Sharing
+pub mod Waiting
+pub mod Frames
+pub mod Valid
+pub mod Laws
