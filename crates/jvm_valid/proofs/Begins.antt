@@ -44,7 +44,7 @@ unfolding body_of
 limit_is class member code row l = l.stack
 
 -- a method's first frame fits the shape at its first instruction
-first_stands : (program : List Class) (h : NamedHeap) (method : MemberRef) (xs : List Slot) (class : Class) (member : Member) (code : CodeParts) (row : MethodRow)
+pub first_stands : (program : List Class) (h : NamedHeap) (method : MemberRef) (xs : List Slot) (class : Class) (member : Member) (code : CodeParts) (row : MethodRow)
     → IsVerified program → IsMethod program method class member code → row_of_method program method ≡ Some row
     → AreValues h (first_kinds member.flags method.descriptor) xs → StandsIn program h (first_frame method row xs)
 first_stands program h method xs class member code row verified is has are =

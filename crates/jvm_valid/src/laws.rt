@@ -1,10 +1,10 @@
 //! Laws of valid states. They have no bodies: each is its contract.
 
-ghost use Rattle.jvm_valid.specs.Laws.{EachCallBegins};
+ghost use Rattle.jvm_valid.specs.Laws.{EachCallBegins, EachBodyBegins};
 
 /// A method that is called on values of its kinds, above frames that wait for what it gives, begins in a valid state,
-/// or there is no room for its frame. Above no frames it is the state in which a body starts.
-#[tactic(auto, using(crate::proofs::Begins::each_call_begins))]
+/// or there is no room for its frame. The body of a task, whose arguments fit and are placed, begins in a valid state.
 pub fn calls_begin_validly()
-    ensures { EachCallBegins }
+    ensures calls { EachCallBegins }
+    ensures bodies { EachBodyBegins }
 {}
