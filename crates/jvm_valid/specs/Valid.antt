@@ -1,4 +1,4 @@
--- Valid states: those that a run of a verified program meets.
+-- Valid states: those that a run of a verified program is to meet.
 use Rattle.std.specs.Prelude.{◌≡◌, List, [], ◌∷◌, Option}
 use Rattle.jvm_tables.specs.declared.instruction.ValueKind.{ValueKind}
 use Rattle.jvm_tables.specs.declared.instruction.ValueKind.TheVariants.{Reference}
