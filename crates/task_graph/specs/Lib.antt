@@ -1,0 +1,5 @@
+pub mod PostOrders
+pub mod Returning
+pub mod TaskGraphs
+pub mod Plans
+pub mod GraphFaults
