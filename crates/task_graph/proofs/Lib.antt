@@ -1,3 +1,4 @@
 pub mod Walking
 pub mod Ending
 pub mod Choosing
+pub mod Ranking

@@ -3,3 +3,4 @@ pub mod Returning
 pub mod TaskGraphs
 pub mod Plans
 pub mod GraphFaults
+pub mod Rankings

@@ -1,5 +1,5 @@
 -- What is evaluated for the chosen tasks, and what is run together.
-use Rattle.std.specs.Prelude.{ℕ, Bool, not, ◌==◌, slice_index, List, [], ◌∷◌, length, filter}
+use Rattle.std.specs.Prelude.{ℕ, Bool, not, ◌==◌, slice_index, List, [], ◌∷◌, ◌++◌, if◌then◌else◌, length, filter}
 use Rattle.std.specs.List.{range_with_len}
 use Rattle.place_graph.specs.Graphs.{is_among}
 use Rattle.task_model.specs.declared.task_row.TaskRow.{TaskRow}
@@ -16,6 +16,10 @@ in_name_order count chosen = filter (λ task. is_among task chosen) (range_with_
 -- of so many places those that are marked
 abbrev pub marked_places : List ℕ → ℕ → List ℕ
 marked_places marks count = filter (λ place. slice_index marks place == 1) (range_with_len 0 count)
+
+-- with a place at its end, if that is marked
+abbrev pub with_marked : List ℕ → List ℕ → ℕ → List ℕ
+with_marked marks found place = if slice_index marks place == 1 then found ++ place ∷ [] else found
 
 -- The named tasks upstream of the chosen ones and these themselves, in post-order from the chosen ones in name order. An
 -- anonymous task is walked through and left out.

@@ -1,6 +1,6 @@
 -- Post-order over a graph in which paths end: what the edges of a place lead to comes before the place.
 use Rattle.std.specs.Prelude.{ℕ, zero, suc, List, [], ◌∷◌, ◌++◌, length, flat_map, IsTrue}
-use Rattle.place_graph.specs.Graphs.{edges_of, is_among, once}
+use Rattle.place_graph.specs.Graphs.{edges_of, is_among, with_places, once}
 
 -- no path from a place has more than so many places
 abbrev pub EndsWithin : List (List ℕ) → ℕ → ℕ → Type 0
@@ -22,6 +22,13 @@ late_walk (suc depth) graph place = flat_map (late_walk depth graph) (edges_of g
 
 abbrev pub late_walks : ℕ → List (List ℕ) → List ℕ → List ℕ
 late_walks depth graph places = flat_map (late_walk depth graph) places
+
+-- what was found with what a walk, or walks one after another, come to, each place where it first comes
+abbrev pub with_walk : ℕ → List (List ℕ) → List ℕ → ℕ → List ℕ
+with_walk depth graph found place = with_places found (late_walk depth graph place)
+
+abbrev pub with_walks : ℕ → List (List ℕ) → List ℕ → List ℕ → List ℕ
+with_walks depth graph found places = with_places found (late_walks depth graph places)
 
 -- The post-order from places, each place where it first comes. Where no path returns, no path has more places than there
 -- are.

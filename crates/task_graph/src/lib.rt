@@ -10,6 +10,7 @@ mod graph;
 mod group;
 mod plans;
 mod post_order;
+mod ranks;
 mod returning;
 
 pub use fault::{GraphFault, Limit};

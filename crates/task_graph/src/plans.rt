@@ -1,11 +1,11 @@
 //! What is evaluated for the chosen tasks.
 
-ghost use Rattle.std.specs.Prelude.{◌≡◌, ◌<◌, ◌≤◌, ◌==◌, [], ◌∷◌, ◌++◌, if◌then◌else◌, slice_index, length, filter, IfOk, OnOk, IsOkUnless};
-ghost use Rattle.place_graph.specs.Graphs.{is_among, AreWithin, with_places};
+ghost use Rattle.std.specs.Prelude.{◌≡◌, ◌<◌, ◌≤◌, [], length, filter, IfOk, OnOk, IsOkUnless};
+ghost use Rattle.place_graph.specs.Graphs.{AreWithin, with_places};
 ghost use Rattle.place_graph.specs.Closing.{IsMarking};
 ghost use Rattle.task_graph.specs.TaskGraphs.{places, edges};
 ghost use Rattle.task_graph.specs.PostOrders.{post_order};
-ghost use Rattle.task_graph.specs.Plans.{is_named, in_name_order, marked_places, plan};
+ghost use Rattle.task_graph.specs.Plans.{is_named, in_name_order, marked_places, with_marked, plan};
 
 use crate::edges::{is_anonymous, places_of};
 use crate::fault::GraphFault;
@@ -32,7 +32,7 @@ fn mark_all(marks: &mut [usize], found: &mut Places, places: &[u32]) -> Result<(
 fn push_marked(found: &mut Places, marks: &[usize], place: usize) -> Result<(), AllocError>
     requires place { place < length marks.now }
     requires few { place < 4096 }
-    ensures { OnOk result (found.new ≡ (if slice_index marks.now place == 1 then found.old ++ place ∷ [] else found.old)) }
+    ensures { OnOk result (found.new ≡ with_marked marks.now found.old place) }
 {
     if marks[place] != FOUND {
         return Ok(());

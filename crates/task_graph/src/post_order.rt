@@ -1,9 +1,9 @@
 //! Post-order: depth first, each place after what its edges lead to.
 
 ghost use Rattle.std.specs.Prelude.{◌≡◌, ◌<◌, ℕ, length, IfOk, OnOk, IsTrue};
-ghost use Rattle.place_graph.specs.Graphs.{is_among, AreWithin, IsGraph, with_place, with_places};
+ghost use Rattle.place_graph.specs.Graphs.{AreWithin, IsGraph, with_place};
 ghost use Rattle.place_graph.specs.Closing.{IsMarking};
-ghost use Rattle.task_graph.specs.PostOrders.{EndsWithin, AllEndWithin, IsClosedUnder, late_walk, late_walks, post_order};
+ghost use Rattle.task_graph.specs.PostOrders.{EndsWithin, AllEndWithin, IsClosedUnder, with_walk, with_walks, post_order};
 
 use place_graph::Places;
 use sqlite_items::Items;
@@ -43,7 +43,7 @@ fn visit(
     requires all { length marks.old ≡ length graph.now }
     requires marking { IsMarking marks.old 1 found.old }
     requires closed { IsClosedUnder graph.now found.old }
-    ensures found { OnOk result (found.new ≡ with_places found.old (late_walk depth graph.now place)) }
+    ensures found { OnOk result (found.new ≡ with_walk depth graph.now found.old place) }
     ensures marking { OnOk result (IsMarking marks.new 1 found.new) }
     ensures closed { OnOk result (IsClosedUnder graph.now found.new) }
 {
@@ -70,7 +70,7 @@ fn visit_all(
     requires all { length marks.old ≡ length graph.now }
     requires marking { IsMarking marks.old 1 found.old }
     requires closed { IsClosedUnder graph.now found.old }
-    ensures found { OnOk result (found.new ≡ with_places found.old (late_walks depth graph.now places.now)) }
+    ensures found { OnOk result (found.new ≡ with_walks depth graph.now found.old places.now) }
     ensures marking { OnOk result (IsMarking marks.new 1 found.new) }
     ensures closed { OnOk result (IsClosedUnder graph.now found.new) }
 {
