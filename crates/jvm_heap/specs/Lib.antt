@@ -3,3 +3,4 @@ pub mod Objects
 pub mod Heaps
 pub mod Contents
 pub mod Changes
+pub mod Renaming

@@ -1,6 +1,6 @@
 //! The heap.
 
-ghost use Rattle.std.specs.Prelude.{◌≡◌, suc, ◌+◌, ◌<◌, ◌≤◌, nat_le, IsSome, Some, length, sum_by};
+ghost use Rattle.std.specs.Prelude.{◌≡◌, suc, ◌+◌, ◌<◌, ◌≤◌, nat_le, IfSome, IsSome, Some, length, sum_by};
 ghost use Rattle.std.specs.Option.{option_copied};
 ghost use Rattle.jvm_heap.specs.Objects.{cells_of};
 ghost use Rattle.jvm_heap.specs.Heaps.{empty, most_cells, object_at, allocated, slot_at, with_slot};
@@ -77,7 +77,7 @@ impl Heap {
     }
 
     /// The allocator that its objects are made with.
-    pub(crate) fn allocator(&self) -> Global {
+    pub fn allocator(&self) -> Global {
         *self.objects.allocator()
     }
 
@@ -89,7 +89,9 @@ impl Heap {
 
     /// The object of a number. `None` for null and for a number that no object has.
     pub fn object(&self, number: u32) -> Option<&Object>
-        ensures { option_copied result ≡ object_at number self.now }
+        ensures value { option_copied result ≡ object_at number self.now }
+        ensures within { IfSome (option_copied result) (λ o. cells_of o ≤ most_cells) }
+        ensures few { IsSome result → number ≤ most_cells }
     {
         if number == 0 {
             return None;
