@@ -9,3 +9,5 @@ pub mod Numbers
 pub mod Lists
 pub mod Outside
 pub mod Table
+pub mod Stated
+pub mod Ends

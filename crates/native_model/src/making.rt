@@ -1,0 +1,41 @@
+//! What is answered where an object is made or made larger.
+
+ghost use Rattle.std.specs.Prelude.{◌≡◌};
+ghost use Rattle.jvm_heap.specs.Objects.{text};
+ghost use Rattle.jvm_heap.specs.Heaps.{allocated};
+ghost use Rattle.jvm_heap.specs.Changes.{Makes};
+ghost use Rattle.native_model.specs.Ends.{end_of_making, end_of_growing};
+
+use crate::budget::Budget;
+use crate::fault::StepFault;
+use crate::native_end::NativeEnd;
+use jvm_heap::{Content, Heap, HeapFault, Object, Slot, Units};
+
+pub(crate) fn end_of_making(made: Result<u32, HeapFault>) -> Result<NativeEnd, StepFault>
+    ensures { result ≡ end_of_making made }
+{
+    match made {
+        Ok(number) => Ok(NativeEnd::Gives(Some(Slot::Ref(number)))),
+        Err(HeapFault::Full) => Ok(NativeEnd::Spends(Budget::Cells)),
+        Err(HeapFault::Memory) => Err(StepFault::Memory),
+    }
+}
+
+pub(crate) fn end_of_growing(
+    slot: Option<Slot>,
+    grown: Result<(), HeapFault>,
+) -> Result<NativeEnd, StepFault>
+    ensures { result ≡ end_of_growing slot grown }
+{
+    match grown {
+        Ok(()) => Ok(NativeEnd::Gives(slot)),
+        Err(HeapFault::Full) => Ok(NativeEnd::Spends(Budget::Cells)),
+        Err(HeapFault::Memory) => Err(StepFault::Memory),
+    }
+}
+
+pub(crate) fn put_text(heap: &mut Heap, units: Units) -> Result<u32, HeapFault>
+    ensures { Makes (allocated (text units) heap.old) result heap.old heap.new }
+{
+    heap.allocate(Object::of(Content::Text { units }))
+}
