@@ -1,0 +1,70 @@
+//! Natives of Object, Objects and Enum.
+
+ghost use Rattle.std.specs.Prelude.{◌≡◌, ◌<◌, ◌^◌, Ok};
+ghost use Rattle.native_model.specs.Ends.{answer_of, Answers};
+ghost use Rattle.native_model.specs.Plain.{object_made, object_hash, object_equals, required, enum_made, enum_name, enum_ordinal};
+ghost use Rattle.native_model.specs.Worlds as worlds;
+
+use jvm_heap::Slot;
+use native_model::{Naming, NativeEnd, Throw, World};
+
+/// `new Object()`, and a constructor of a StringBuilder.
+pub fn object_made(object: u32) -> NativeEnd
+    ensures { (w : worlds.World) → object_made object w ≡ answer_of result w }
+{
+    let _ = object;
+    NativeEnd::Gives(None)
+}
+
+/// `Object.hashCode()`: the object's number, which the heap's limit keeps below 2^31.
+pub fn object_hash(object: u32) -> NativeEnd
+    requires { object < 2 ^ 31 }
+    ensures { (w : worlds.World) → object_hash object w ≡ answer_of result w }
+{
+    NativeEnd::Gives(Some(Slot::Int(object as i32)))
+}
+
+/// `Object.equals(Object)`.
+pub fn object_equals(object: u32, other: u32) -> NativeEnd
+    ensures { (w : worlds.World) → object_equals object other w ≡ answer_of result w }
+{
+    NativeEnd::truth(object == other)
+}
+
+/// `Objects.requireNonNull(Object)`.
+pub fn required(object: u32) -> NativeEnd
+    ensures { (w : worlds.World) → required object w ≡ answer_of result w }
+{
+    if object == 0 {
+        NativeEnd::Throws(Throw::NullPointer)
+    } else {
+        NativeEnd::Gives(Some(Slot::Ref(object)))
+    }
+}
+
+/// The constructor of enums.
+pub fn enum_made<N: Naming>(object: u32, name: u32, ordinal: i32, world: &mut World<N>) -> NativeEnd
+    ensures { Answers (enum_made object name ordinal world.old) (Ok result) world.old world.new }
+{
+    world.set_name(object, name, ordinal)
+}
+
+/// `Enum.name()` and `toString()`.
+pub fn enum_name<N: Naming>(object: u32, world: &World<N>) -> NativeEnd
+    ensures { enum_name object world.now ≡ answer_of result world.now }
+{
+    match world.enum_name(object) {
+        Some(name) => NativeEnd::Gives(Some(Slot::Ref(name))),
+        None => NativeEnd::Throws(Throw::IncompatibleChange),
+    }
+}
+
+/// `Enum.ordinal()`.
+pub fn enum_ordinal<N: Naming>(object: u32, world: &World<N>) -> NativeEnd
+    ensures { enum_ordinal object world.now ≡ answer_of result world.now }
+{
+    match world.enum_ordinal(object) {
+        Some(ordinal) => NativeEnd::Gives(Some(Slot::Int(ordinal))),
+        None => NativeEnd::Throws(Throw::IncompatibleChange),
+    }
+}
