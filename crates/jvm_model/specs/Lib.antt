@@ -17,3 +17,4 @@ pub mod Steps
 pub mod Runs
 pub mod Programs
 pub mod Bodies
+pub mod Outcomes

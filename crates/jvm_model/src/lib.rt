@@ -7,6 +7,8 @@
 
 mod action;
 mod laws;
+mod outcome;
 
 pub use action::{Action, Plain, Rearrangement, Test};
 pub use laws::{runs_go_no_further, runs_that_ask_alike_are_equal};
+pub use outcome::Outcome;
