@@ -8,7 +8,7 @@ ghost use Rattle.jvm_heap.specs.Heaps.{most_cells, box_of_boolean};
 ghost use Rattle.native_model.specs.Answers.{gives_text, gives_made};
 ghost use Rattle.native_model.specs.Numbers.{int_box, long_box};
 ghost use Rattle.native_model.specs.Strings.{appended};
-ghost use Rattle.native_model.specs.Ends.{Answers};
+ghost use Rattle.native_model.specs.Ends.{named_world, Answers};
 
 use crate::dest::Dest;
 use crate::fault::StepFault;
@@ -48,6 +48,28 @@ impl<N: Naming> Model for World<N> {
 }
 
 impl<N: Naming> World<N> {
+    /// The world in which a body begins, or goes on.
+    pub fn new(
+        names: N,
+        heap: Heap,
+        dest: Dest,
+        log: Lines,
+        surround: Option<Surround>,
+        owner: Option<Text>,
+    ) -> World<N>
+        ensures { result ≡ named_world (N.class_name names) (N.site_origin names)
+            heap dest log surround owner }
+    {
+        World {
+            names,
+            heap,
+            dest,
+            log,
+            surround,
+            owner,
+        }
+    }
+
     /// The units of a text.
     pub fn text(&self, number: u32) -> Option<&[u16]>
         ensures units { option_copied result ≡ seen as_text number self.now }
