@@ -1,9 +1,8 @@
 -- What the world says of objects that are changed where classes and sites are told by place.
 use Rattle.std.proofs.Common.{◌≡◌, ℕ, ℤ, List, length, refl, sym, subst, ap, ◌∙◌}
-use Rattle.std.specs.Prelude.{◌++◌, ◌∷◌, [], Option, Some, None, IsSome, option_map, option_and_then, Result, Ok, Err}
+use Rattle.std.specs.Prelude.{◌++◌, Option, Some, None, IsSome, option_map, option_and_then, Result, Ok}
 use Rattle.class_model.specs.declared.identifiers.ClassId.{ClassId}
 use Rattle.class_model.specs.declared.identifiers.SiteId.{SiteId}
-use Rattle.jvm_heap.specs.declared.slot.Slot.{Slot}
 use Rattle.jvm_heap.specs.declared.slot.Slot.TheVariants.{Ref}
 use Rattle.jvm_heap.specs.declared.fault.HeapFault.{HeapFault}
 use Rattle.jvm_heap.specs.Objects.{Object, throwable, enumerated, builder}
@@ -16,7 +15,7 @@ use Rattle.native_model.specs.declared.native_end.NativeEnd.{NativeEnd}
 use Rattle.native_model.specs.declared.native_end.NativeEnd.TheVariants as ends
 use Rattle.native_model.specs.Worlds.{Origin, NamedObject, NamedHeap, Surround, World, with_heap, as_builder, seen}
 use Rattle.native_model.specs.Thrown.{incompatible_change}
-use Rattle.native_model.specs.Answers.{Answer, throws, gives_nothing, gives_within, or_mismatch}
+use Rattle.native_model.specs.Answers.{Answer, throws, gives_nothing, or_mismatch}
 use Rattle.native_model.specs.Strings.{appended, append_to}
 use Rattle.native_model.specs.Plain.{throwable_with, throwable_made, message_of, enum_made_of, enum_made, name_of}
 use Rattle.native_model.specs.Ends.{named_world, end_of_growing, Answers}

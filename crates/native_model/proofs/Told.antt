@@ -4,7 +4,6 @@ use Rattle.std.specs.Prelude.{Option, Some, None, IfSome, option_map, option_and
 use Rattle.class_model.specs.declared.identifiers.ClassId.{ClassId}
 use Rattle.class_model.specs.declared.identifiers.SiteId.{SiteId}
 use Rattle.jvm_heap.specs.declared.slot.Slot.{Slot}
-use Rattle.jvm_heap.specs.declared.slot.Slot.TheVariants.{Ref}
 use Rattle.jvm_heap.specs.declared.fault.HeapFault.{HeapFault}
 use Rattle.jvm_heap.specs.declared.fault.HeapFault.TheVariants as heap_faults
 use Rattle.jvm_heap.specs.Objects.{Object, text, builder, cells_of}
