@@ -43,11 +43,12 @@ impl Kind {
     pub(crate) fn fits(self, wanted: Kind) -> bool
         ensures { result ≡ fits self wanted }
     {
-        wanted.is(Kind::Top) || self.is(wanted)
+        matches!(wanted, Kind::Top) | (self == wanted)
     }
 }
 
-/// Whether as many kinds fit, each the one at its place.
+/// Whether as many kinds fit, each the one at its place. All are compared, also behind one that doesn't fit: a loop
+/// without an early end compares many at once.
 #[tactic(auto, using(crate::proofs::Fitting::fit_step, crate::proofs::Fitting::fit_end, crate::proofs::Fitting::fit_lengths))]
 pub(crate) fn all_fit(kinds: &[Kind], wanted: &[Kind]) -> bool
     ensures { result ≡ all_fit kinds.now wanted.now }
@@ -55,10 +56,9 @@ pub(crate) fn all_fit(kinds: &[Kind], wanted: &[Kind]) -> bool
     if kinds.len() != wanted.len() {
         return false;
     }
+    let mut fit = true;
     for at in 0..kinds.len() {
-        if !kinds[at].fits(wanted[at]) {
-            return false;
-        }
+        fit = fit & kinds[at].fits(wanted[at]);
     }
-    true
+    fit
 }
