@@ -6,6 +6,7 @@ from struct import pack
 
 from class_file import (
     INT,
+    TOP,
     Pool,
     append_frame,
     attribute,
@@ -165,6 +166,41 @@ def call_sites_over_one_bootstrap(size):
     return one_method(pool, code(pool, 1, 0, body), attributes=[table])
 
 
+def call_site_constants_over_one_bootstrap(size):
+    """20,000 constants of call sites over one concatenation of 40,000 constants."""
+    count, constants = 20_000 // size, 40_000 // size
+    pool = Pool()
+    types = "Ljava/lang/invoke/MethodHandles$Lookup;Ljava/lang/String;Ljava/lang/invoke/MethodType;"
+    factory = pool.method(
+        "java/lang/invoke/StringConcatFactory",
+        "makeConcatWithConstants",
+        f"({types}Ljava/lang/String;[Ljava/lang/Object;)Ljava/lang/invoke/CallSite;",
+    )
+    arguments = [pack(">H", pool.string("\x02" * constants))] + [pack(">H", pool.string("s"))] * constants
+    entry = pack(">H", pool.method_handle(6, factory)) + counted(arguments)
+    for _ in range(count):
+        pool.call_site(0, "makeConcatWithConstants", "()Ljava/lang/String;", fresh=True)
+    table = attribute(pool, "BootstrapMethods", counted([entry]))
+    return one_method(pool, code(pool, 0, 0, RETURN), attributes=[table])
+
+
+def branches_to_one_frame_of_many_locals(size):
+    """8,000 branches back to one frame with 60,000 locals that are ints and Top in turn."""
+    count, local_slots = 8_000 // size, 60_000 // size
+    body = RETURN + b"".join(ICONST_0 + pack(">Bh", IFEQ, -(4 * at + 1)) for at in range(count)) + RETURN
+    pool = Pool()
+    frames = [full_frame(1, [INT, TOP] * (local_slots // 2), [])]
+    return one_method(pool, code(pool, 1, local_slots, body, frames=frames))
+
+
+def frames_that_append(size):
+    """16,000 frames, each of which adds three locals to those of the frame before it."""
+    count = 16_000 // size
+    frames = [full_frame(1, [], [])] + [append_frame(0, [INT] * 3)] * (count - 1)
+    pool = Pool()
+    return one_method(pool, code(pool, 0, 3 * count, RETURN * (count + 1), frames=frames))
+
+
 def repeated(opcode, place_in, size, after=POP):
     """Ten methods that have one instruction with the same constant 16,000 times each."""
     pool = Pool()
@@ -197,6 +233,7 @@ def objects_of_one_class(size):
 CASES = [
     frames_over_locals,
     frames_that_chop_and_append,
+    frames_that_append,
     stores_between_frames,
     frames_of_a_long_class,
     ranges_over_instructions,
@@ -207,8 +244,10 @@ CASES = [
     switch_to_one_frame,
     switches_to_one_frame,
     branches_to_one_deep_stack,
+    branches_to_one_frame_of_many_locals,
     switch_to_one_deep_stack,
     call_sites_over_one_bootstrap,
+    call_site_constants_over_one_bootstrap,
     calls_of_one_method,
     reads_of_one_field,
     loads_of_one_string,
