@@ -17,6 +17,7 @@ pub mod PairedStacks
 pub mod Points
 pub mod Pruning
 pub mod Safe
+pub mod Sharing
 pub mod Sizes
 pub mod Slots
 pub mod Stacking
@@ -24,5 +25,6 @@ pub mod Strays
 pub mod Sweeping
 pub mod Switched
 pub mod Tables
+pub mod Tracking
 pub mod Verifying
 pub mod Walking

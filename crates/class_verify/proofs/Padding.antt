@@ -9,7 +9,7 @@ use Rattle.class_verify.specs.declared.kinds.Kind.{Kind}
 use Rattle.class_verify.specs.declared.kinds.Kind.TheVariants as kinds
 use Rattle.class_verify.specs.Kinds.{is_kind, is_top, fits, all_fit}
 use Rattle.class_verify.specs.Locals.{is_some_kind, without_long_before, with_kind, with_long}
-use Rattle.class_verify.specs.Padding.{padded, kept_fit, kind_written, long_written}
+use Rattle.class_verify.specs.Padding.{padded, kind_written, long_written}
 use Rattle.class_verify.proofs.Fitting.{fit-append}
 
 abbrev tops : ℕ → List Kind
@@ -53,9 +53,15 @@ rest_fits (k ∷ a) (w ∷ b) p q e z = absurd (omega arith)
 split : (c p : ℕ) (a : List Kind) → a ++ tops p ≡ take c a ++ (drop c a ++ tops p)
 split c p a = ap (λ x. x ++ tops p) (sym (take-append-drop c a)) ∙ append_assoc (take c a) (drop c a) (tops p)
 
+-- what is common fits, and of the others the rest is Top
+abbrev pub common_fit : List Kind → List Kind → Bool
+common_fit slots others =
+    let common : ℕ = min (length slots) (length others) in
+    all_fit (take common slots) (take common others) && list_all is_top (drop common others)
+
 pub padded_fit : (a b : List Kind) (m n : ℕ) → length (padded m a) ≡ length (padded n b)
     → all_fit (padded m a) (padded n b)
-    ≡ kept_fit a b
+    ≡ common_fit a b
 padded_fit a b m n e =
     let c : ℕ = min (length a) (length b) in
     let p : ℕ = m - length a in
@@ -139,10 +145,6 @@ pub within_long : (at : ℕ) (slots : List Kind) (k : Kind) → at + 1 < length 
 within_long at slots k =
     let out : List Kind = without_long_before at (padded (at + 2) slots) in
     omega (arith, length-set out at k, length-without at (padded (at + 2) slots), length_padded (at + 2) slots)
-
-pub common_part : (a b : List Kind) (c : ℕ) → c ≡ min (length a) (length b)
-    → (all_fit (take c a) (take c b) && list_all is_top (drop c b)) ≡ kept_fit a b
-common_part a b c e = ap (λ n. all_fit (take n a) (take n b) && list_all is_top (drop n b)) e
 
 -- the kept part behind a store, in which so many slots are written out first
 abbrev pub written_out : ℕ → ℕ → List Kind → List Kind

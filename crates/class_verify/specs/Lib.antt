@@ -13,6 +13,7 @@ pub mod LawsOfEntries
 pub mod LawsOfFamilies
 pub mod LawsOfInstructions
 pub mod LawsOfShapes
+pub mod LocalTypes
 pub mod Locals
 pub mod Misfits
 pub mod Padding
@@ -21,6 +22,7 @@ pub mod Places
 pub mod Programs
 pub mod Ready
 pub mod Shapes
+pub mod SharedKinds
 pub mod Stacks
 pub mod Stops
 pub mod Sweeps

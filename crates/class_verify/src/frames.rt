@@ -1,12 +1,12 @@
 //! The frames that a stack map writes.
 
-ghost use Rattle.std.specs.Prelude.{◌≡◌, ◌<◌, ◌^◌, None, OnOk, IfOk, length, map, nat_le, if◌then◌else◌};
+ghost use Rattle.std.specs.Prelude.{◌≡◌, ◌<◌, ◌^◌, OnOk, IfOk, length, map, nat_le};
 ghost use Rattle.std.specs.List.{list_any};
-ghost use Rattle.class_verify.specs.Frames.{is_float, type_of, shape_of, chopped, kept, types_after, has_float, written, frames_from};
+ghost use Rattle.class_verify.specs.Frames.{is_float, type_of, shape_of, chopped, types_after, written, frames_from};
+ghost use Rattle.class_verify.specs.LocalTypes.{AreTold};
 
-use crate::locals::{Locals, push_types};
+use crate::local_types::LocalTypes;
 use crate::shape::Shape;
-use crate::stack::Stack;
 use class_model::{FrameType, StackFrame};
 use jvm_tables::ValueKind;
 use sqlite_items::Items;
@@ -28,22 +28,16 @@ pub struct Written {
     pub shape: Option<Shape>,
 }
 
-fn is_float(t: FrameType) -> bool
+pub(crate) fn is_float(t: FrameType) -> bool
     ensures { result ≡ is_float t }
 {
     t.tag == 2 || t.tag == 3
 }
 
-fn any_float(types: &[FrameType]) -> bool
+pub(crate) fn any_float(types: &[FrameType]) -> bool
     ensures { result ≡ list_any is_float types.now }
 {
     types.iter().any(|t| is_float(*t))
-}
-
-fn has_float(locals: &[FrameType], stack: &[FrameType]) -> bool
-    ensures { result ≡ has_float locals.now stack.now }
-{
-    any_float(locals) || any_float(stack)
 }
 
 fn type_of(kind: ValueKind) -> FrameType
@@ -64,7 +58,6 @@ pub(crate) fn types_of(alloc: Global, kinds: &[ValueKind]) -> Result<Vec<FrameTy
 }
 
 /// The shape that types tell, if they keep within the limits.
-#[tactic(auto, unfolding(crate::specs::Frames::shape_of))]
 pub(crate) fn shape_of(
     alloc: Global,
     limits: Limits,
@@ -73,23 +66,12 @@ pub(crate) fn shape_of(
 ) -> Result<Option<Shape>, AllocError>
     ensures { IfOk result (λ found. found ≡ shape_of limits locals.now stack.now) }
 {
-    let mut kinds = Vec::new(alloc);
-    push_types(&mut kinds, locals)?;
-    if kinds.len() > limits.locals {
-        return Ok(None);
-    }
-    let mut items = Stack::new(alloc);
-    items.push_types(stack)?;
-    if items.len() > limits.stack {
-        return Ok(None);
-    }
-    Ok(Some(Shape {
-        stack: items,
-        locals: Locals::padded(kinds, limits.locals),
-    }))
+    let mut types = LocalTypes::new(alloc);
+    types.extend(locals)?;
+    types.shape(alloc, limits, stack)
 }
 
-fn chopped(f: &StackFrame) -> usize
+pub(crate) fn chopped(f: &StackFrame) -> usize
     ensures { result ≡ chopped f.now }
 {
     if f.tag < 248 {
@@ -99,50 +81,24 @@ fn chopped(f: &StackFrame) -> usize
     }
 }
 
-/// Leaves of the types the ones that a frame keeps.
-#[tactic(auto, unfolding(crate::specs::Frames::kept))]
-fn keep(types: &mut Vec<FrameType>, f: &StackFrame)
-    ensures { types.new.items ≡ kept f.now types.old.items }
-{
-    if f.tag == 255 {
-        types.clear();
-    } else {
-        types.truncate(types.len().saturating_sub(chopped(f)));
-    }
-}
-
-fn shape_if(
-    alloc: Global,
-    limits: Limits,
-    enough: bool,
-    locals: &[FrameType],
-    stack: &[FrameType],
-) -> Result<Option<Shape>, AllocError>
-    ensures { IfOk result (λ found. found ≡ (if has_float locals.now stack.now then None else if enough then shape_of limits locals.now stack.now else None)) }
-{
-    if has_float(locals, stack) {
-        return Ok(None);
-    }
-    if !enough {
-        return Ok(None);
-    }
-    shape_of(alloc, limits, locals, stack)
-}
-
 fn frame_with(
     alloc: Global,
     limits: Limits,
     at: u32,
     enough: bool,
-    locals: &[FrameType],
+    types: &mut LocalTypes,
     stack: &[FrameType],
 ) -> Result<Written, AllocError>
-    ensures { IfOk result (λ w. w ≡ written limits at enough locals.now stack.now) }
+    requires { AreTold types.old }
+    ensures told { OnOk result (AreTold types.new) }
+    ensures types { types.new.types ≡ types.old.types }
+    ensures frame { IfOk result (λ w. w ≡ written limits at enough types.old.types.items stack.now) }
 {
-    let shape = shape_if(alloc, limits, enough, locals, stack)?;
+    let has_float = types.has_float() || any_float(stack);
+    let shape = types.shape_if(alloc, limits, enough && !has_float, stack)?;
     Ok(Written {
         at,
-        has_float: has_float(locals, stack),
+        has_float,
         shape,
     })
 }
@@ -152,23 +108,18 @@ fn next_frame(
     alloc: Global,
     limits: Limits,
     at: u32,
-    types: &mut Vec<FrameType>,
+    types: &mut LocalTypes,
     f: &StackFrame,
 ) -> Result<Written, AllocError>
-    ensures types { OnOk result (types.new.items ≡ types_after f.now types.old.items) }
-    ensures frame { IfOk result (λ w. w ≡ written limits at (nat_le (chopped f.now) (length types.old.items)) (types_after f.now types.old.items) f.now.stack) }
+    requires { AreTold types.old }
+    ensures told { OnOk result (AreTold types.new) }
+    ensures types { OnOk result (types.new.types.items ≡ types_after f.now types.old.types.items) }
+    ensures frame { IfOk result (λ w. w ≡ written limits at (nat_le (chopped f.now) (length types.old.types.items)) (types_after f.now types.old.types.items) f.now.stack) }
 {
-    let enough = chopped(f) <= types.len();
-    keep(types, f);
-    types.extend_from_slice(f.locals.as_slice())?;
-    frame_with(
-        alloc,
-        limits,
-        at,
-        enough,
-        types.as_slice(),
-        f.stack.as_slice(),
-    )
+    let enough = chopped(f) <= types.types.len();
+    types.keep(f);
+    types.extend(f.locals.as_slice())?;
+    frame_with(alloc, limits, at, enough, types, f.stack.as_slice())
 }
 
 /// The frames of a stack map, given the types of the locals as the method begins.
@@ -176,12 +127,14 @@ fn next_frame(
 pub(crate) fn frames_of(
     alloc: Global,
     limits: Limits,
-    mut types: Vec<FrameType>,
+    first: &[FrameType],
     frames: &[StackFrame],
 ) -> Result<Items<Written>, AllocError>
     requires { length frames.now < 2 ^ 16 }
-    ensures { IfOk result (λ found. found ≡ frames_from limits 0 types.items frames.now) }
+    ensures { IfOk result (λ found. found ≡ frames_from limits 0 first.now frames.now) }
 {
+    let mut types = LocalTypes::new(alloc);
+    types.extend(first)?;
     let mut found = Items::new(alloc);
     let mut next = 0;
     for f in frames {

@@ -1,23 +1,22 @@
 //! Locals.
 
 ghost use Rattle.std.specs.Prelude.{◌≡◌, ◌++◌, ◌∷◌, ◌<◌, ◌^◌, [], None, Some, length, slice_get, slice_set, IfOk, MatchBool, OnOk};
-ghost use Rattle.std.specs.List.{list_all};
-ghost use Rattle.class_verify.specs.Kinds.{is_top, all_fit};
-ghost use Rattle.class_verify.specs.Frames.{slots_of, all_slots};
-ghost use Rattle.class_verify.specs.Padding.{padded, kept_fit, kind_written, long_written};
+ghost use Rattle.class_verify.specs.Kinds.{all_fit};
+ghost use Rattle.class_verify.specs.Frames.{slots_of};
+ghost use Rattle.class_verify.specs.Padding.{padded, kind_written, long_written};
 ghost use Rattle.class_verify.specs.Locals.{is_some_kind, holds, without_long_before, with_kind, with_long, stored};
 
-use crate::kinds::{Kind, all_fit};
+use crate::kinds::Kind;
+use crate::shared_kinds::SharedKinds;
 use class_model::FrameType;
 use jvm_tables::ValueKind;
-use sqlite_items::at;
 use std::alloc::{AllocError, Global};
 use std::marker::Model;
 
 /// The kinds of locals, from 0 on. Only the first are kept: those behind them are Top.
 #[derive(Debug, Drop)]
 pub struct Locals {
-    slots: Vec<Kind>,
+    slots: SharedKinds,
     most: usize,
 }
 
@@ -32,134 +31,94 @@ impl Model for Locals {
 
     ghost coded = { coded_list kind_type.the_row.coded };
 
-    ghost view = { λ s. padded s.most s.slots.items };
+    ghost view = { λ s. padded s.most s.slots };
 }
 
-fn is_at(locals: &[Kind], place: usize, wanted: Kind) -> bool
+fn is_at(locals: &SharedKinds, place: usize, wanted: Kind) -> bool
     ensures { result ≡ is_some_kind wanted (slice_get locals.now place) }
 {
-    match at(locals, place) {
+    match locals.get(place) {
         Some(kind) => kind.is(wanted),
         None => false,
     }
 }
 
-fn all_top(kinds: &[Kind]) -> bool
-    ensures { result ≡ list_all is_top kinds.now }
-{
-    kinds.iter().all(|kind| kind.is(Kind::Top))
-}
-
-/// Adds the slots of types.
-#[tactic(auto, using(crate::proofs::Slots::add_end))]
-pub(crate) fn push_types(slots: &mut Vec<Kind>, types: &[FrameType]) -> Result<(), AllocError>
-    ensures { OnOk result (slots.new.items ≡ slots.old.items ++ all_slots types.now) }
-{
-    for t in types {
-        push_type(slots, *t)?;
-    }
-    Ok(())
-}
-
-fn push(slots: &mut Vec<Kind>, kind: Kind) -> Result<(), AllocError>
-    ensures { OnOk result (slots.new.items ≡ slots.old.items ++ kind ∷ []) }
-{
-    slots.push(kind)?;
-    Ok(())
-}
-
-fn push_type(slots: &mut Vec<Kind>, t: FrameType) -> Result<(), AllocError>
-    ensures { OnOk result (slots.new.items ≡ slots.old.items ++ slots_of t) }
+/// Adds the slots of a type.
+pub(crate) fn push_type(slots: &mut SharedKinds, t: FrameType) -> Result<(), AllocError>
+    ensures { OnOk result (slots.new ≡ slots.old ++ slots_of t) }
 {
     if t.tag == 0 {
-        return push(slots, Kind::Top);
+        return slots.push(Kind::Top);
     }
     if t.tag == 1 {
-        return push(slots, Kind::Int);
+        return slots.push(Kind::Int);
     }
     if t.tag == 4 {
-        push(slots, Kind::Long)?;
-        return push(slots, Kind::Top);
+        slots.push(Kind::Long)?;
+        return slots.push(Kind::Top);
     }
-    push(slots, Kind::Reference)
+    slots.push(Kind::Reference)
 }
 
 /// Adds Top up to a number of slots.
 #[tactic(auto, using(crate::proofs::Slots::pad_end))]
-fn pad(slots: &mut Vec<Kind>, count: usize) -> Result<(), AllocError>
-    ensures { OnOk result (slots.new.items ≡ padded count slots.old.items) }
+fn pad(slots: &mut SharedKinds, count: usize) -> Result<(), AllocError>
+    ensures { OnOk result (slots.new ≡ padded count slots.old) }
 {
     while slots.len() < count {
-        push(slots, Kind::Top)?;
+        slots.push(Kind::Top)?;
     }
     Ok(())
 }
 
 /// Ends a long whose second slot is at a place.
-fn end_long_before(slots: &mut Vec<Kind>, place: usize)
-    requires { place < length slots.old.items }
-    ensures { slots.new.items ≡ without_long_before place slots.old.items }
+fn end_long_before(slots: &mut SharedKinds, place: usize) -> Result<(), AllocError>
+    requires { place < length slots.old }
+    ensures { OnOk result (slots.new ≡ without_long_before place slots.old) }
 {
     if place == 0 {
-        return;
+        return Ok(());
     }
     let before = place - 1;
-    if is_at(slots.as_slice(), before, Kind::Long) {
-        slots[before] = Kind::Top;
+    if is_at(slots, before, Kind::Long) {
+        slots.set(before, Kind::Top)?;
     }
-}
-
-fn put(slots: &mut Vec<Kind>, place: usize, kind: Kind)
-    requires { place < length slots.old.items }
-    ensures { slots.new.items ≡ slice_set slots.old.items place kind }
-{
-    slots[place] = kind;
+    Ok(())
 }
 
 /// Writes a slot, behind which there may be more than are kept.
 #[tactic(auto, unfolding(crate::specs::Padding::kind_written), using(crate::proofs::Padding::within_written_out, crate::proofs::Padding::within_padded))]
-fn write_kind(slots: &mut Vec<Kind>, place: usize, kind: Kind) -> Result<(), AllocError>
+fn write_kind(slots: &mut SharedKinds, place: usize, kind: Kind) -> Result<(), AllocError>
     requires { place < 2 ^ 32 }
-    ensures { OnOk result (slots.new.items ≡ kind_written kind place slots.old.items) }
+    ensures { OnOk result (slots.new ≡ kind_written kind place slots.old) }
 {
     pad(slots, place + 1)?;
-    end_long_before(slots, place);
-    put(slots, place, kind);
-    Ok(())
+    end_long_before(slots, place)?;
+    slots.set(place, kind)
 }
 
 /// Writes a long, behind which there may be more than are kept.
 #[tactic(auto, unfolding(crate::specs::Padding::long_written), using(crate::proofs::Padding::within_long, crate::proofs::Padding::within_written_out, crate::proofs::Padding::within_padded))]
-fn write_long(slots: &mut Vec<Kind>, place: usize) -> Result<(), AllocError>
+fn write_long(slots: &mut SharedKinds, place: usize) -> Result<(), AllocError>
     requires { place < 2 ^ 32 }
-    ensures { OnOk result (slots.new.items ≡ long_written place slots.old.items) }
+    ensures { OnOk result (slots.new ≡ long_written place slots.old) }
 {
     pad(slots, place + 2)?;
-    end_long_before(slots, place);
-    put(slots, place, Kind::Long);
-    put(slots, place + 1, Kind::Top);
-    Ok(())
-}
-
-/// Whether the kept part of locals fits that of others.
-#[tactic(auto, using(crate::proofs::Padding::common_part))]
-fn kept_fit(slots: &[Kind], others: &[Kind]) -> bool
-    ensures { result ≡ kept_fit slots.now others.now }
-{
-    let common = slots.len().min(others.len());
-    all_fit(&slots[..common], &others[..common]) && all_top(&others[common..])
+    end_long_before(slots, place)?;
+    slots.set(place, Kind::Long)?;
+    slots.set(place + 1, Kind::Top)
 }
 
 impl Locals {
     pub fn new(alloc: Global) -> Locals
         ensures { result ≡ [] }
     {
-        Locals::padded(Vec::new(alloc), 0)
+        Locals::padded(SharedKinds::of(Vec::new(alloc)), 0)
     }
 
     /// So many locals, the first of which have these kinds, and the others are Top.
-    pub(crate) fn padded(slots: Vec<Kind>, most: usize) -> Locals
-        ensures { result ≡ padded most slots.items }
+    pub(crate) fn padded(slots: SharedKinds, most: usize) -> Locals
+        ensures { result ≡ padded most slots }
     {
         Locals { slots, most }
     }
@@ -176,18 +135,17 @@ impl Locals {
         ensures { OnOk result (self.new ≡ other.now) }
     {
         self.most = other.most;
-        self.slots.clear();
-        self.slots.extend_from_slice(other.slots.as_slice())
+        self.slots.copy_from(&other.slots)
     }
 
-    #[tactic(auto, using(crate::proofs::Fitting::fit_lengths, crate::proofs::Padding::padded_fit))]
+    #[tactic(auto, using(crate::proofs::Fitting::fit_lengths, crate::proofs::Sharing::padded_fits))]
     pub(crate) fn fits(&self, wanted: &Locals) -> bool
         ensures { result ≡ all_fit self.now wanted.now }
     {
         if self.len() != wanted.len() {
             return false;
         }
-        kept_fit(self.slots.as_slice(), wanted.slots.as_slice())
+        self.slots.kept_fit(&wanted.slots)
     }
 
     /// Whether a value of a kind begins at a local.
@@ -195,7 +153,7 @@ impl Locals {
     pub(crate) fn holds(&self, place: usize, kind: ValueKind) -> bool
         ensures { result ≡ holds kind place self.now }
     {
-        let locals = self.slots.as_slice();
+        let locals = &self.slots;
         match kind {
             ValueKind::Int => is_at(locals, place, Kind::Int),
             ValueKind::Long => is_at(locals, place, Kind::Long),

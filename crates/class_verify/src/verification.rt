@@ -84,7 +84,7 @@ fn shapes(
 {
     let types = types_of(alloc, kinds)?;
     let first = shape_of(alloc, limits, types.as_slice(), &[])?;
-    let frames = frames_of(alloc, limits, types, stack_map(attributes))?;
+    let frames = frames_of(alloc, limits, types.as_slice(), stack_map(attributes))?;
     Ok((first, frames))
 }
 

@@ -5,5 +5,5 @@ use Rattle.class_verify.proofs.locals.pad.Goals as goal
 
 pub loop-slots-preserved : goal.loop-slots-preserved
 loop-slots-preserved c =
-    let room : length c.loop-slots.slots.items < c.args.count = omega arith in
-    ap (padded c.args.count) c.in_ok-push.ensures ∙ pad_step c.args.count c.loop-slots.slots.items room ∙ c.loop-slots.invariant
+    let room : length c.loop-slots.slots < c.args.count = omega arith in
+    ap (padded c.args.count) c.in_ok-push.ensures ∙ pad_step c.args.count c.loop-slots.slots room ∙ c.loop-slots.invariant
