@@ -1,7 +1,8 @@
 //! Which names an adapter leaves out.
 
-ghost use Rattle.std.specs.Prelude.{◌↔◌, IsTrue};
-ghost use Rattle.io_real.specs.Names.{IsOwn, IsPutFolder, IsNoSource, IsOfResults};
+ghost use Rattle.std.specs.Prelude.{◌≡◌, ◌↔◌, ◌-◌, length, IsTrue};
+ghost use Rattle.tree_value.specs.Paths.{segments};
+ghost use Rattle.io_real.specs.Names.{IsOwn, IsPutFolder, IsNoSource, has_dot_folder, is_hidden};
 
 /// The file that a store locks.
 pub(crate) const LOCK: &str = ".lock";
@@ -39,21 +40,25 @@ pub(crate) fn is_no_source(folder: &[u8], entry: &[u8]) -> bool
 
 // Whether a workspace leaves the file out, since it leaves out a folder on the way to it.
 pub(crate) fn is_hidden(name: &[u8]) -> bool
-    ensures { IsOfResults name.now → IsTrue result }
+    ensures { result ≡ is_hidden name.now }
 {
     name.starts_with(b"out/") || has_dot_folder(name)
 }
 
 // Whether the name of a folder on the way to the file begins with a dot.
-fn has_dot_folder(name: &[u8]) -> bool {
-    let mut folder: Option<&[u8]> = None;
-    for segment in name.split(|byte| *byte == b'/') {
-        if folder.is_some_and(|name| name.starts_with(b".")) {
-            return true;
-        }
-        folder = Some(segment);
-    }
-    false
+fn has_dot_folder(name: &[u8]) -> bool
+    ensures { result ≡ has_dot_folder name.now }
+{
+    name.split(|byte| *byte == b'/')
+        .take(folder_count(name))
+        .any(|folder| folder.starts_with(b"."))
+}
+
+// How many folders stand on the way to the file.
+fn folder_count(name: &[u8]) -> usize
+    ensures { result ≡ length (segments name.now) - 1 }
+{
+    name.iter().filter(|byte| **byte == b'/').count()
 }
 
 // The folder on the way to the name whose name ends at a slash.

@@ -1,10 +1,10 @@
 //! The workspace over the files of a root folder.
 
-ghost use Rattle.std.specs.Prelude.{◌≡◌, None, IfOk, IfErr, IsOk};
+ghost use Rattle.std.specs.Prelude.{◌≡◌, None, IfOk, IfErr, IsOk, IsTrue};
 ghost use Rattle.io_traits.specs.Causes.{HasCause};
 ghost use Rattle.io_traits.specs.Files.{IsInOrder};
 ghost use Rattle.io_real.specs.Counts.{settled, kept_now, no_faults};
-ghost use Rattle.io_real.specs.Names.{IsOfResults};
+ghost use Rattle.io_real.specs.Names.{is_hidden};
 
 use crate::counts::FaultCount;
 use crate::folders::Folder;
@@ -70,7 +70,7 @@ impl<R: Files + AllocGlobal + Clone + Drop> Workspace for RealWorkspace<R> {
     }
 
     fn read(&mut self, name: &Path) -> Result<Option<Bytes>, IoFault>
-        ensures results { IsOfResults name.now → result ≡ Ok None }
+        ensures hidden { IsTrue (is_hidden name.now) → result ≡ Ok None }
         ensures count { self.new.count ≡ settled result self.old.count }
         ensures cause { HasCause self.old.count.now self.new.count.now result }
     {
