@@ -21,6 +21,3 @@ pub use folders::{MAX_FILE_LEN, MAX_NAMES};
 pub use stores::RealStore;
 pub use streams::{RealSink, RealSource};
 pub use workspaces::RealWorkspace;
-
-#[cfg(test)]
-mod tests;
