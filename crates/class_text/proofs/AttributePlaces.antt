@@ -2,8 +2,6 @@
 use Rattle.std.proofs.Common.{◌≡◌, ℕ, zero, suc, eqb, ltb, leb, ◌+◌, ◌-◌, ◌≤◌, Bool, false, cond, ◌&&◌, List, [], length, map, codes, bytes_eq, Ok, Err, ap, subst, arith}
 use Rattle.std.specs.Str.{byte}
 use Rattle.class_model.specs.declared.constant_pool.Pool.{Pool}
-use Rattle.class_model.specs.declared.stack_map.StackFrame.{StackFrame}
-use Rattle.class_model.specs.declared.stack_map.FrameType.{FrameType}
 use Rattle.class_model.specs.declared.annotation.Element.{Element, roll-Element}
 use Rattle.class_model.specs.declared.annotation.Element.TheOpen.{Element-F}
 use Rattle.class_model.specs.declared.annotation.Note.{roll-Note}
@@ -20,7 +18,7 @@ use Rattle.class_text.specs.Elements.{is_text, is_type, is_result, is_value, is_
 use Rattle.class_text.specs.Attributes.{text_of, is_first, is_caught, handler_at, leads_to_handle, leads_to_loadable, bootstrap_at, other_at, stack_map_at, leads_to_value, constant_value_at, bootstraps_at, annotations_at, code_content_at, named_at, attribute_by, code_attribute_at, code_attributes_at, code_bytes_at, code_at, own_name, own_content_at, content_at, attribute_at, attributes_at}
 use Rattle.class_text.proofs.Numbers.{ok_is}
 use Rattle.class_text.proofs.Readers.{bind}
-use Rattle.class_text.proofs.Steps.{judged, handler_of, handler_caught, handler_start, handler_stop, code_made, code_inner, code_table, code_run, code_locals}
+use Rattle.class_text.proofs.Steps.{class_type, new_type, not_chop, not_far_item, not_item, not_same, constant_value, class_value, note_value, array_value, not_note, not_class, not_enum, not_constant, judged, handler_of, handler_caught, handler_start, handler_stop, code_made, code_inner, code_table, code_run, code_locals}
 use Rattle.class_text.proofs.Inside.{Inside, raise_inside, less_inside, give_inside, fail_inside, either_inside, then_inside, made_inside, here_inside, u1_inside, u2_inside, u4_inside, index_inside, many_inside, counted_inside, each_inside, run_inside, within_inside}
 
 -- a fault at a place before the bytes
@@ -32,17 +30,11 @@ tag_before at tag = fail_inside (suc at) 0 (bad_tag at tag) (λ end over. over)
 typed_inside : (pool : Pool) (at tag : ℕ) → Inside (suc at) 0 (typed_at pool at tag)
 unfolding typed_at
 typed_inside pool at tag =
-    either_inside (suc at) 0 (ltb tag 7) (λ end bytes. Ok (type_of tag 0, bytes)) (λ end bytes. cond (eqb tag 7) (of_class end bytes) (cond (eqb tag 8) (of_new end bytes) (Err (bad_tag at tag))))
+    either_inside (suc at) 0 (ltb tag 7) (λ end bytes. Ok (type_of tag 0, bytes)) (λ end bytes. cond (eqb tag 7) (class_type pool tag end bytes) (cond (eqb tag 8) (new_type tag end bytes) (Err (bad_tag at tag))))
     (give_inside (suc at) (type_of tag 0))
-    (either_inside (suc at) 0 (eqb tag 7) of_class (λ end bytes. cond (eqb tag 8) (of_new end bytes) (Err (bad_tag at tag)))
+    (either_inside (suc at) 0 (eqb tag 7) (class_type pool tag) (λ end bytes. cond (eqb tag 8) (new_type tag end bytes) (Err (bad_tag at tag)))
     (less_inside (made_inside (suc at) 2 (index_at (is_class pool)) (type_of tag) (index_inside (is_class pool) (suc at))))
-    (either_inside (suc at) 0 (eqb tag 8) of_new (λ end bytes. Err (bad_tag at tag)) (less_inside (made_inside (suc at) 2 u2_at (type_of tag) (u2_inside (suc at)))) (tag_before at tag)))
-  where
-    of_class : Reader FrameType
-    of_class = bind (index_at (is_class pool)) (λ n end bytes. Ok (type_of tag n, bytes))
-
-    of_new : Reader FrameType
-    of_new = bind u2_at (λ n end bytes. Ok (type_of tag n, bytes))
+    (either_inside (suc at) 0 (eqb tag 8) (new_type tag) (λ end bytes. Err (bad_tag at tag)) (less_inside (made_inside (suc at) 2 u2_at (type_of tag) (u2_inside (suc at)))) (tag_before at tag)))
 
 frame_type_inside : (pool : Pool) (low : ℕ) → Inside low 0 (frame_type_at pool)
 unfolding frame_type_at
@@ -71,29 +63,17 @@ full_inside pool tag delta low =
 behind_delta_inside : (pool : Pool) (tag delta low : ℕ) → Inside low 0 (behind_delta_at pool tag delta)
 unfolding behind_delta_at
 behind_delta_inside pool tag delta low =
-    either_inside low 0 (eqb tag 247) (with_item_at pool tag delta) behind_item (with_item_inside pool tag delta low)
-    (either_inside low 0 (ltb tag 252) (λ end bytes. Ok (frame_of tag delta [] [], bytes)) behind_chop (give_inside low (frame_of tag delta [] []))
+    either_inside low 0 (eqb tag 247) (with_item_at pool tag delta) (not_far_item pool tag delta) (with_item_inside pool tag delta low)
+    (either_inside low 0 (ltb tag 252) (λ end bytes. Ok (frame_of tag delta [] [], bytes)) (not_chop pool tag delta) (give_inside low (frame_of tag delta [] []))
     (either_inside low 0 (ltb tag 255) (with_locals_at pool tag delta (tag - 251)) (full_at pool tag delta) (with_locals_inside pool tag delta (tag - 251) low) (full_inside pool tag delta low)))
-  where
-    behind_chop : Reader StackFrame
-    behind_chop end bytes = cond (ltb tag 255) (with_locals_at pool tag delta (tag - 251) end bytes) (full_at pool tag delta end bytes)
-
-    behind_item : Reader StackFrame
-    behind_item end bytes = cond (ltb tag 252) (Ok (frame_of tag delta [] [], bytes)) (behind_chop end bytes)
 
 framed_inside : (pool : Pool) (at tag : ℕ) → Inside (suc at) 0 (framed_at pool at tag)
 unfolding framed_at
 framed_inside pool at tag =
-    either_inside (suc at) 0 (ltb tag 64) (λ end bytes. Ok (frame_of tag tag [] [], bytes)) not_same (give_inside (suc at) (frame_of tag tag [] []))
-    (either_inside (suc at) 0 (ltb tag 128) (with_item_at pool tag (tag - 64)) not_item (with_item_inside pool tag (tag - 64) (suc at))
+    either_inside (suc at) 0 (ltb tag 64) (λ end bytes. Ok (frame_of tag tag [] [], bytes)) (not_same pool at tag) (give_inside (suc at) (frame_of tag tag [] []))
+    (either_inside (suc at) 0 (ltb tag 128) (with_item_at pool tag (tag - 64)) (not_item pool at tag) (with_item_inside pool tag (tag - 64) (suc at))
     (either_inside (suc at) 0 (ltb tag 247) (λ end bytes. Err (bad_tag at tag)) (bind u2_at (behind_delta_at pool tag)) (tag_before at tag)
     (less_inside (then_inside (suc at) 2 u2_at (behind_delta_at pool tag) (u2_inside (suc at)) (λ delta. behind_delta_inside pool tag delta (suc at))))))
-  where
-    not_item : Reader StackFrame
-    not_item end bytes = cond (ltb tag 247) (Err (bad_tag at tag)) (bind u2_at (behind_delta_at pool tag) end bytes)
-
-    not_same : Reader StackFrame
-    not_same end bytes = cond (ltb tag 128) (with_item_at pool tag (tag - 64) end bytes) (not_item end bytes)
 
 frame_inside : (pool : Pool) (low : ℕ) → Inside low 0 (frame_at pool)
 unfolding frame_at
@@ -123,36 +103,12 @@ module _ (pool : Pool) (low : ℕ) (value : Reader Element) (values : Inside low
   tagged_inside : (at tag : ℕ) → suc at ≤ low → Inside low 0 (tagged_by value pool at tag)
   unfolding tagged_by
   tagged_inside at tag under =
-      either_inside low 0 (is_constant_tag tag) constants not_constant (less_inside (made_inside low 2 (index_at (is_value pool tag)) (λ n. roll-Element (Element-F.Const tag n)) (index_inside (is_value pool tag) low)))
-      (either_inside low 0 (eqb tag (byte "e")) (enum_at pool) not_enum enum_inside
-      (either_inside low 0 (eqb tag (byte "c")) classes not_class (less_inside (made_inside low 2 (index_at (is_result pool)) (λ n. roll-Element (Element-F.OfClass n)) (index_inside (is_result pool) low)))
-      (either_inside low 0 (eqb tag (byte "@")) notes not_note (made_inside low 0 (note_by value pool) (λ n. roll-Element (Element-F.Nested n)) note_inside)
-      (either_inside low 0 (eqb tag (byte "[")) arrays (λ end bytes. Err (bad_tag at tag)) (made_inside low 0 (counted_at value) (λ vs. roll-Element (Element-F.Many vs)) (each_inside low 0 value values))
+      either_inside low 0 (is_constant_tag tag) (constant_value pool tag) (not_constant pool value at tag) (less_inside (made_inside low 2 (index_at (is_value pool tag)) (λ n. roll-Element (Element-F.Const tag n)) (index_inside (is_value pool tag) low)))
+      (either_inside low 0 (eqb tag (byte "e")) (enum_at pool) (not_enum pool value at tag) enum_inside
+      (either_inside low 0 (eqb tag (byte "c")) (class_value pool) (not_class pool value at tag) (less_inside (made_inside low 2 (index_at (is_result pool)) (λ n. roll-Element (Element-F.OfClass n)) (index_inside (is_result pool) low)))
+      (either_inside low 0 (eqb tag (byte "@")) (note_value pool value) (not_note pool value at tag) (made_inside low 0 (note_by value pool) (λ n. roll-Element (Element-F.Nested n)) note_inside)
+      (either_inside low 0 (eqb tag (byte "[")) (array_value value) (λ end bytes. Err (bad_tag at tag)) (made_inside low 0 (counted_at value) (λ vs. roll-Element (Element-F.Many vs)) (each_inside low 0 value values))
       (raise_inside (suc at) 0 low 0 (λ end bytes. Err (bad_tag at tag)) under (omega arith) (tag_before at tag))))))
-    where
-      constants : Reader Element
-      constants = bind (index_at (is_value pool tag)) (λ n end bytes. Ok (roll-Element (Element-F.Const tag n), bytes))
-
-      classes : Reader Element
-      classes = bind (index_at (is_result pool)) (λ n end bytes. Ok (roll-Element (Element-F.OfClass n), bytes))
-
-      notes : Reader Element
-      notes = bind (note_by value pool) (λ n end bytes. Ok (roll-Element (Element-F.Nested n), bytes))
-
-      arrays : Reader Element
-      arrays = bind (counted_at value) (λ vs end bytes. Ok (roll-Element (Element-F.Many vs), bytes))
-
-      not_note : Reader Element
-      not_note end bytes = cond (eqb tag (byte "[")) (arrays end bytes) (Err (bad_tag at tag))
-
-      not_class : Reader Element
-      not_class end bytes = cond (eqb tag (byte "@")) (notes end bytes) (not_note end bytes)
-
-      not_enum : Reader Element
-      not_enum end bytes = cond (eqb tag (byte "c")) (classes end bytes) (not_class end bytes)
-
-      not_constant : Reader Element
-      not_constant end bytes = cond (eqb tag (byte "e")) (enum_at pool end bytes) (not_enum end bytes)
 
 element_inside : (at : ℕ) (pool : Pool) (depth : ℕ) → Inside (suc at) 0 (element_at at pool depth)
 unfolding element_at

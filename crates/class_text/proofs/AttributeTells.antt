@@ -3,8 +3,6 @@ use Rattle.std.proofs.Common.{◌≡◌, ℕ, zero, suc, eqb, ltb, leb, ◌+◌,
 use Rattle.std.specs.Int.{w16, w32, to_be_bytes}
 use Rattle.std.specs.Str.{byte}
 use Rattle.class_model.specs.declared.constant_pool.Pool.{Pool}
-use Rattle.class_model.specs.declared.stack_map.StackFrame.{StackFrame}
-use Rattle.class_model.specs.declared.stack_map.FrameType.{FrameType}
 use Rattle.class_model.specs.declared.annotation.Element.{Element, roll-Element}
 use Rattle.class_model.specs.declared.annotation.Element.TheOpen.{Element-F}
 use Rattle.class_model.specs.declared.annotation.Note.{roll-Note}
@@ -29,7 +27,7 @@ use Rattle.class_text.proofs.ElementLaws.{text_reads}
 use Rattle.class_text.proofs.AttributeLaws.{code_contents}
 use Rattle.class_text.proofs.FramedLaws.{named_reads, attribute_reads}
 use Rattle.class_text.proofs.CodeLaws.{form_named, code_attributes_read, contents_read, attributes_of}
-use Rattle.class_text.proofs.Steps.{judged, handler_of, handler_caught, handler_start, handler_stop, code_made, code_inner, code_table, code_run, code_locals}
+use Rattle.class_text.proofs.Steps.{class_type, new_type, not_chop, not_far_item, not_item, not_same, constant_value, class_value, note_value, array_value, not_note, not_class, not_enum, not_constant, judged, handler_of, handler_caught, handler_start, handler_stop, code_made, code_inner, code_table, code_run, code_locals}
 use Rattle.class_text.proofs.Tells.{IsIn, is_in_behind, Tells, TellsBehind, Cuts, Anywhere, give_tells, fail_tells, either_tells, then_tells, made_tells, here_tells, bind_tells, u1_tells, u2_tells, u4_tells, index_tells, many_tells, each_tells, run_tells, within_tells, plain_behind, give_behind, fail_behind, either_behind, bind_behind, here_behind, counted_behind}
 
 module _ (pool : Pool) (file : List ℕ) (start : ℕ) where
@@ -61,17 +59,11 @@ module _ (pool : Pool) (file : List ℕ) (start : ℕ) where
   typed_tells : (at tag : ℕ) → IsTag at tag → Tells file start Meant (typed_at pool at tag)
   unfolding typed_at
   typed_tells at tag stood =
-      either_tells file start Meant (ltb tag 7) (λ end bytes. Ok (type_of tag 0, bytes)) (λ end bytes. cond (eqb tag 7) (of_class end bytes) (cond (eqb tag 8) (of_new end bytes) (Err (bad_tag at tag))))
+      either_tells file start Meant (ltb tag 7) (λ end bytes. Ok (type_of tag 0, bytes)) (λ end bytes. cond (eqb tag 7) (class_type pool tag end bytes) (cond (eqb tag 8) (new_type tag end bytes) (Err (bad_tag at tag))))
       (λ y. give_tells file start Meant (type_of tag 0))
-      (λ n. either_tells file start Meant (eqb tag 7) of_class (λ end bytes. cond (eqb tag 8) (of_new end bytes) (Err (bad_tag at tag)))
+      (λ n. either_tells file start Meant (eqb tag 7) (class_type pool tag) (λ end bytes. cond (eqb tag 8) (new_type tag end bytes) (Err (bad_tag at tag)))
       (λ y. made_tells file start Meant (index_at (is_class pool)) (type_of tag) (wanted_tells a_class))
-      (λ m. either_tells file start Meant (eqb tag 8) of_new (λ end bytes. Err (bad_tag at tag)) (λ y. made_tells file start Meant u2_at (type_of tag) number_tells) (λ o. no_tag at tag stood)))
-    where
-      of_class : Reader FrameType
-      of_class = bind (index_at (is_class pool)) (λ n end bytes. Ok (type_of tag n, bytes))
-
-      of_new : Reader FrameType
-      of_new = bind u2_at (λ n end bytes. Ok (type_of tag n, bytes))
+      (λ m. either_tells file start Meant (eqb tag 8) (new_type tag) (λ end bytes. Err (bad_tag at tag)) (λ y. made_tells file start Meant u2_at (type_of tag) number_tells) (λ o. no_tag at tag stood)))
 
   -- what stands behind a tag
   tagged : {A : Type 0} (next : ℕ → ℕ → Reader A) → ((at tag : ℕ) → IsTag at tag → Tells file start Meant (next at tag)) → Tells file start Meant (λ end bytes. bind u1_at (next (place end bytes)) end bytes)
@@ -104,29 +96,17 @@ module _ (pool : Pool) (file : List ℕ) (start : ℕ) where
   behind_delta_tells : (tag delta : ℕ) → Tells file start Meant (behind_delta_at pool tag delta)
   unfolding behind_delta_at
   behind_delta_tells tag delta =
-      either_tells file start Meant (eqb tag 247) (with_item_at pool tag delta) behind_item (λ y. with_item_tells tag delta)
-      (λ n. either_tells file start Meant (ltb tag 252) (λ end bytes. Ok (frame_of tag delta [] [], bytes)) behind_chop (λ y. give_tells file start Meant (frame_of tag delta [] []))
+      either_tells file start Meant (eqb tag 247) (with_item_at pool tag delta) (not_far_item pool tag delta) (λ y. with_item_tells tag delta)
+      (λ n. either_tells file start Meant (ltb tag 252) (λ end bytes. Ok (frame_of tag delta [] [], bytes)) (not_chop pool tag delta) (λ y. give_tells file start Meant (frame_of tag delta [] []))
       (λ m. either_tells file start Meant (ltb tag 255) (with_locals_at pool tag delta (tag - 251)) (full_at pool tag delta) (λ y. with_locals_tells tag delta (tag - 251)) (λ o. full_tells tag delta)))
-    where
-      behind_chop : Reader StackFrame
-      behind_chop end bytes = cond (ltb tag 255) (with_locals_at pool tag delta (tag - 251) end bytes) (full_at pool tag delta end bytes)
-
-      behind_item : Reader StackFrame
-      behind_item end bytes = cond (ltb tag 252) (Ok (frame_of tag delta [] [], bytes)) (behind_chop end bytes)
 
   framed_tells : (at tag : ℕ) → IsTag at tag → Tells file start Meant (framed_at pool at tag)
   unfolding framed_at
   framed_tells at tag stood =
-      either_tells file start Meant (ltb tag 64) (λ end bytes. Ok (frame_of tag tag [] [], bytes)) not_same (λ y. give_tells file start Meant (frame_of tag tag [] []))
-      (λ n. either_tells file start Meant (ltb tag 128) (with_item_at pool tag (tag - 64)) not_item (λ y. with_item_tells tag (tag - 64))
+      either_tells file start Meant (ltb tag 64) (λ end bytes. Ok (frame_of tag tag [] [], bytes)) (not_same pool at tag) (λ y. give_tells file start Meant (frame_of tag tag [] []))
+      (λ n. either_tells file start Meant (ltb tag 128) (with_item_at pool tag (tag - 64)) (not_item pool at tag) (λ y. with_item_tells tag (tag - 64))
       (λ m. either_tells file start Meant (ltb tag 247) (λ end bytes. Err (bad_tag at tag)) (bind u2_at (behind_delta_at pool tag)) (λ y. no_tag at tag stood)
       (λ o. then_tells file start Meant u2_at (behind_delta_at pool tag) number_tells (λ delta. behind_delta_tells tag delta))))
-    where
-      not_item : Reader StackFrame
-      not_item end bytes = cond (ltb tag 247) (Err (bad_tag at tag)) (bind u2_at (behind_delta_at pool tag) end bytes)
-
-      not_same : Reader StackFrame
-      not_same end bytes = cond (ltb tag 128) (with_item_at pool tag (tag - 64) end bytes) (not_item end bytes)
 
   frame_tells : Tells file start Meant (frame_at pool)
   unfolding frame_at
@@ -156,36 +136,12 @@ module _ (pool : Pool) (file : List ℕ) (start : ℕ) where
     tagged_tells : (at tag : ℕ) → IsTag at tag → Tells file start Meant (tagged_by value pool at tag)
     unfolding tagged_by
     tagged_tells at tag stood =
-        either_tells file start Meant (is_constant_tag tag) constants not_constant (λ y. made_tells file start Meant (index_at (is_value pool tag)) (λ n. roll-Element (Element-F.Const tag n)) (wanted_tells (a_value tag)))
-        (λ n. either_tells file start Meant (eqb tag (byte "e")) (enum_at pool) not_enum (λ y. enum_tells)
-        (λ m. either_tells file start Meant (eqb tag (byte "c")) classes not_class (λ y. made_tells file start Meant (index_at (is_result pool)) (λ n. roll-Element (Element-F.OfClass n)) (wanted_tells a_result))
-        (λ o. either_tells file start Meant (eqb tag (byte "@")) notes not_note (λ y. made_tells file start Meant (note_by value pool) (λ n. roll-Element (Element-F.Nested n)) note_tells)
-        (λ p. either_tells file start Meant (eqb tag (byte "[")) arrays (λ end bytes. Err (bad_tag at tag)) (λ y. made_tells file start Meant (counted_at value) (λ vs. roll-Element (Element-F.Many vs)) (each_tells file start Meant cuts value values))
+        either_tells file start Meant (is_constant_tag tag) (constant_value pool tag) (not_constant pool value at tag) (λ y. made_tells file start Meant (index_at (is_value pool tag)) (λ n. roll-Element (Element-F.Const tag n)) (wanted_tells (a_value tag)))
+        (λ n. either_tells file start Meant (eqb tag (byte "e")) (enum_at pool) (not_enum pool value at tag) (λ y. enum_tells)
+        (λ m. either_tells file start Meant (eqb tag (byte "c")) (class_value pool) (not_class pool value at tag) (λ y. made_tells file start Meant (index_at (is_result pool)) (λ n. roll-Element (Element-F.OfClass n)) (wanted_tells a_result))
+        (λ o. either_tells file start Meant (eqb tag (byte "@")) (note_value pool value) (not_note pool value at tag) (λ y. made_tells file start Meant (note_by value pool) (λ n. roll-Element (Element-F.Nested n)) note_tells)
+        (λ p. either_tells file start Meant (eqb tag (byte "[")) (array_value value) (λ end bytes. Err (bad_tag at tag)) (λ y. made_tells file start Meant (counted_at value) (λ vs. roll-Element (Element-F.Many vs)) (each_tells file start Meant cuts value values))
         (λ q. no_tag at tag stood)))))
-      where
-        constants : Reader Element
-        constants = bind (index_at (is_value pool tag)) (λ n end bytes. Ok (roll-Element (Element-F.Const tag n), bytes))
-
-        classes : Reader Element
-        classes = bind (index_at (is_result pool)) (λ n end bytes. Ok (roll-Element (Element-F.OfClass n), bytes))
-
-        notes : Reader Element
-        notes = bind (note_by value pool) (λ n end bytes. Ok (roll-Element (Element-F.Nested n), bytes))
-
-        arrays : Reader Element
-        arrays = bind (counted_at value) (λ vs end bytes. Ok (roll-Element (Element-F.Many vs), bytes))
-
-        not_note : Reader Element
-        not_note end bytes = cond (eqb tag (byte "[")) (arrays end bytes) (Err (bad_tag at tag))
-
-        not_class : Reader Element
-        not_class end bytes = cond (eqb tag (byte "@")) (notes end bytes) (not_note end bytes)
-
-        not_enum : Reader Element
-        not_enum end bytes = cond (eqb tag (byte "c")) (classes end bytes) (not_class end bytes)
-
-        not_constant : Reader Element
-        not_constant end bytes = cond (eqb tag (byte "e")) (enum_at pool end bytes) (not_enum end bytes)
 
   element_tells : (at : ℕ) → IsNameAt pool file start at → (depth : ℕ) → Tells file start Meant (element_at at pool depth)
   unfolding element_at

@@ -1,5 +1,5 @@
 -- What holds of the readers of annotations.
-use Rattle.std.proofs.Common.{◌≡◌, ℕ, zero, suc, eqb, ◌^◌, ◌<◌, true, false, cond, List, [], ◌∷◌, ◌++◌, length, Option, Some, None, ◌-◌, Ok, Err, refl, sym, ap, subst, ◌∙◌, arith}
+use Rattle.std.proofs.Common.{◌≡◌, ℕ, zero, suc, eqb, ◌^◌, ◌<◌, true, false, List, [], ◌∷◌, ◌++◌, length, Option, Some, None, ◌-◌, Ok, Err, refl, sym, ap, subst, ◌∙◌, arith}
 use Rattle.std.specs.Str.{byte}
 use Rattle.std.specs.Int.{w16, to_be_bytes}
 use Rattle.std.proofs.lemmas.Bool.{eqb-true}
@@ -19,6 +19,7 @@ use Rattle.class_model.specs.Spelling as spelling
 use Rattle.class_text.specs.Reading.{bad_tag, bad_attribute}
 use Rattle.class_text.specs.Readers.{Reader, u1_at, index_at, counted_at}
 use Rattle.class_text.specs.Elements.{is_text, is_type, is_result, is_value, is_constant_tag, pair_by, note_by, enum_at, tagged_by, element_at, note_at}
+use Rattle.class_text.proofs.Steps.{constant_value, class_value, note_value, array_value, not_note, not_class, not_enum, not_constant}
 use Rattle.class_text.proofs.Readers.{Reads, as_reads, no_reads, made_reads, layer_reads, bind, bind_reads, either_reads, here_reads}
 use Rattle.class_text.proofs.Parts.{u1_reads, index_reads, each_counted}
 use Rattle.class_text.proofs.Numbered.{IsFew, some_that, numbered, numbered_text}
@@ -222,24 +223,12 @@ module _ (pool : Pool) (few : IsFew pool) (value : Reader Element) (W : Element 
   tagged_reads : (at tag : ℕ) → Reads (tagged_by value pool at tag) (Q tag) t
   unfolding tagged_by
   tagged_reads at tag =
-      either_reads (is_constant_tag tag) (bind (index_at (is_value pool tag)) (λ n end bytes. Ok (roll-Element (Element-F.Const tag n), bytes))) not_constant (Q tag) t (constants tag)
-      (λ a. either_reads (eqb tag (byte "e")) (enum_at pool) not_enum (Q tag) t (enums tag a)
-      (λ b. either_reads (eqb tag (byte "c")) (bind (index_at (is_result pool)) (λ n end bytes. Ok (roll-Element (Element-F.OfClass n), bytes))) not_class (Q tag) t (classes tag a)
-      (λ c. either_reads (eqb tag (byte "@")) (bind (note_by value pool) (λ n end bytes. Ok (roll-Element (Element-F.Nested n), bytes))) not_note (Q tag) t (notes tag a)
-      (λ d. either_reads (eqb tag (byte "[")) (bind (counted_at value) (λ vs end bytes. Ok (roll-Element (Element-F.Many vs), bytes))) (λ end bytes. Err (bad_tag at tag)) (Q tag) t (arrays tag a)
+      either_reads (is_constant_tag tag) (constant_value pool tag) (not_constant pool value at tag) (Q tag) t (constants tag)
+      (λ a. either_reads (eqb tag (byte "e")) (enum_at pool) (not_enum pool value at tag) (Q tag) t (enums tag a)
+      (λ b. either_reads (eqb tag (byte "c")) (class_value pool) (not_class pool value at tag) (Q tag) t (classes tag a)
+      (λ c. either_reads (eqb tag (byte "@")) (note_value pool value) (not_note pool value at tag) (Q tag) t (notes tag a)
+      (λ d. either_reads (eqb tag (byte "[")) (array_value value) (λ end bytes. Err (bad_tag at tag)) (Q tag) t (arrays tag a)
       (λ e. no_reads (bad_tag at tag) (Q tag) t (λ x q. untagged tag (out-Element x) a b c d e q))))))
-    where
-      not_note : Reader Element
-      not_note end bytes = cond (eqb tag (byte "[")) (bind (counted_at value) (λ vs end' bytes'. Ok (roll-Element (Element-F.Many vs), bytes')) end bytes) (Err (bad_tag at tag))
-
-      not_class : Reader Element
-      not_class end bytes = cond (eqb tag (byte "@")) (bind (note_by value pool) (λ n end' bytes'. Ok (roll-Element (Element-F.Nested n), bytes')) end bytes) (not_note end bytes)
-
-      not_enum : Reader Element
-      not_enum end bytes = cond (eqb tag (byte "c")) (bind (index_at (is_result pool)) (λ n end' bytes'. Ok (roll-Element (Element-F.OfClass n), bytes')) end bytes) (not_class end bytes)
-
-      not_constant : Reader Element
-      not_constant end bytes = cond (eqb tag (byte "e")) (enum_at pool end bytes) (not_enum end bytes)
 
   tag_fits : (l : ElementLayer) → IsElementBy W pool l → tag_of l < 2 ^ 8
   unfolding tag_of

@@ -12,8 +12,9 @@ use Rattle.class_model.specs.Annotations.{IsCounted}
 use Rattle.class_model.specs.Attributes.{IsFrameType, IsFrame, has_layout}
 use Rattle.class_model.specs.Spelling.{frame_type, frame, counted}
 use Rattle.class_text.specs.Reading.{bad_tag}
-use Rattle.class_text.specs.Readers.{Reader, u1_at, u2_at, index_at, many_at, counted_at}
+use Rattle.class_text.specs.Readers.{u1_at, u2_at, index_at, many_at, counted_at}
 use Rattle.class_text.specs.Frames.{is_class, type_of, typed_at, frame_type_at, frame_of, with_item_at, with_locals_at, full_at, behind_delta_at, framed_at, frame_at}
+use Rattle.class_text.proofs.Steps.{class_type, new_type, not_chop, not_far_item, not_item, not_same}
 use Rattle.class_text.proofs.Readers.{Reads, as_reads, give_reads, no_reads, made_reads, bind, bind_reads, either_reads, here_reads}
 use Rattle.class_text.proofs.Parts.{u1_reads, u2_reads, index_reads, many_reads, each_counted, AllAfter, all_each, all_after}
 use Rattle.class_text.proofs.Numbered.{IsFew, some_that, numbered}
@@ -90,24 +91,18 @@ behind_some pool tag t high q = rw (q.0, high) refl
 typed_reads : (pool : Pool) → IsFew pool → (at tag : ℕ) → Reads (typed_at pool at tag) (IsTyped pool tag) behind_tag
 unfolding typed_at
 typed_reads pool few at tag =
-    either_reads (ltb tag 7) (λ end bytes. Ok (type_of tag 0, bytes)) (λ end bytes. cond (eqb tag 7) (of_class end bytes) (cond (eqb tag 8) (of_new end bytes) (Err (bad_tag at tag)))) (IsTyped pool tag) behind_tag
+    either_reads (ltb tag 7) (λ end bytes. Ok (type_of tag 0, bytes)) (λ end bytes. cond (eqb tag 7) (class_type pool tag end bytes) (cond (eqb tag 8) (new_type tag end bytes) (Err (bad_tag at tag)))) (IsTyped pool tag) behind_tag
     (λ low. as_reads (λ end bytes. Ok (type_of tag 0, bytes)) (λ t. t ≡ type_of tag 0) (λ t. []) (IsTyped pool tag) behind_tag (give_reads (type_of tag 0))
     (λ t e. subst (IsTyped pool tag) (sym e) (plain_typed pool tag low)) (λ t q. plain_type pool tag t low q) (λ t q. behind_none pool tag t low q))
-    (λ high. either_reads (eqb tag 7) of_class (λ end bytes. cond (eqb tag 8) (of_new end bytes) (Err (bad_tag at tag))) (IsTyped pool tag) behind_tag
-    (λ seven. as_reads of_class (λ t. (is_class pool t.index ≡ true) × (t ≡ type_of tag t.index)) (λ t. to_be_bytes w16 t.index) (IsTyped pool tag) behind_tag
+    (λ high. either_reads (eqb tag 7) (class_type pool tag) (λ end bytes. cond (eqb tag 8) (new_type tag end bytes) (Err (bad_tag at tag))) (IsTyped pool tag) behind_tag
+    (λ seven. as_reads (class_type pool tag) (λ t. (is_class pool t.index ≡ true) × (t ≡ type_of tag t.index)) (λ t. to_be_bytes w16 t.index) (IsTyped pool tag) behind_tag
     (made_reads (index_at (is_class pool)) (λ n. is_class pool n ≡ true) (to_be_bytes w16) (type_of tag) (λ t. t.index) (λ n. refl) (class_reads pool few))
     (λ t p. class_typed pool tag t seven p.0 p.1) (λ t q. typed_class pool tag t seven q) (λ t q. behind_some pool tag t high q))
-    (λ not_seven. either_reads (eqb tag 8) of_new (λ end bytes. Err (bad_tag at tag)) (IsTyped pool tag) behind_tag
-    (λ eight. as_reads of_new (λ t. (t.index < 2 ^ 16) × (t ≡ type_of tag t.index)) (λ t. to_be_bytes w16 t.index) (IsTyped pool tag) behind_tag
+    (λ not_seven. either_reads (eqb tag 8) (new_type tag) (λ end bytes. Err (bad_tag at tag)) (IsTyped pool tag) behind_tag
+    (λ eight. as_reads (new_type tag) (λ t. (t.index < 2 ^ 16) × (t ≡ type_of tag t.index)) (λ t. to_be_bytes w16 t.index) (IsTyped pool tag) behind_tag
     (made_reads u2_at (λ n. n < 2 ^ 16) (to_be_bytes w16) (type_of tag) (λ t. t.index) (λ n. refl) u2_reads)
     (λ t p. new_typed pool tag t eight p.0 p.1) (λ t q. typed_new pool tag t eight q) (λ t q. behind_some pool tag t high q))
     (λ not_eight. no_reads (bad_tag at tag) (IsTyped pool tag) behind_tag (λ t q. untyped pool tag t high not_seven not_eight q))))
-  where
-    of_class : Reader FrameType
-    of_class = bind (index_at (is_class pool)) (λ n end bytes. Ok (type_of tag n, bytes))
-
-    of_new : Reader FrameType
-    of_new = bind u2_at (λ n end bytes. Ok (type_of tag n, bytes))
 
 tag_fits : (pool : Pool) (t : FrameType) → IsFrameType pool t → t.tag < 2 ^ 8
 tag_fits pool t is = let most = is.tag in omega (arith, most)
@@ -346,11 +341,11 @@ locals_spelled pool tag delta many f low h =
 behind_delta_reads : (pool : Pool) → IsFew pool → (tag delta : ℕ) → IsHigh tag → tag < 2 ^ 8 → delta < 2 ^ 16 → Reads (behind_delta_at pool tag delta) (IsDelta pool tag delta) delta_rest
 unfolding behind_delta_at IsDelta delta_rest
 behind_delta_reads pool few tag delta high byte low =
-    either_reads (eqb tag 247) (with_item_at pool tag delta) (λ end bytes. cond (ltb tag 252) (Ok (frame_of tag delta [] [], bytes)) (cond (ltb tag 255) (with_locals_at pool tag delta (tag - 251) end bytes) (full_at pool tag delta end bytes))) (IsDelta pool tag delta) delta_rest
+    either_reads (eqb tag 247) (with_item_at pool tag delta) (not_far_item pool tag delta) (IsDelta pool tag delta) delta_rest
     (λ is. let at = eqb-true tag 247 is in let less : ltb tag 255 ≡ true = grind (arith, nat_tests) in
     as_reads (with_item_at pool tag delta) (HasItem pool tag delta) (λ f. flat_map frame_type f.stack) (IsDelta pool tag delta) delta_rest (with_item_reads pool few tag delta)
     (λ f h. item_delta pool tag delta f high low is h) (λ f q. delta_item pool tag delta f high is q) (λ f q. items_spelled pool tag delta f less (delta_item pool tag delta f high is q)))
-    (λ other. either_reads (ltb tag 252) (λ end bytes. Ok (frame_of tag delta [] [], bytes)) (λ end bytes. cond (ltb tag 255) (with_locals_at pool tag delta (tag - 251) end bytes) (full_at pool tag delta end bytes)) (IsDelta pool tag delta) delta_rest
+    (λ other. either_reads (ltb tag 252) (λ end bytes. Ok (frame_of tag delta [] [], bytes)) (not_chop pool tag delta) (IsDelta pool tag delta) delta_rest
     (λ is. let less : ltb tag 255 ≡ true = grind (arith, nat_tests) in
     as_reads (λ end bytes. Ok (frame_of tag delta [] [], bytes)) (λ f. f ≡ frame_of tag delta [] []) (λ f. []) (IsDelta pool tag delta) delta_rest (give_reads (frame_of tag delta [] []))
     (λ f e. subst (IsDelta pool tag delta) (sym e) (chop_delta pool tag delta high low other is)) (λ f q. delta_chop pool tag delta f high other is q)
@@ -375,11 +370,11 @@ not_framed pool tag f a b c q = let bad : false ≡ true = rw (q.0, a, b, c) at 
 framed_reads : (pool : Pool) → IsFew pool → (at tag : ℕ) → tag < 2 ^ 8 → Reads (framed_at pool at tag) (IsFramed pool tag) tag_rest
 unfolding framed_at tag_rest IsFramed
 framed_reads pool few at tag byte =
-    either_reads (ltb tag 64) (λ end bytes. Ok (frame_of tag tag [] [], bytes)) (λ end bytes. cond (ltb tag 128) (with_item_at pool tag (tag - 64) end bytes) (cond (ltb tag 247) (Err (bad_tag at tag)) (bind u2_at (behind_delta_at pool tag) end bytes))) (IsFramed pool tag) tag_rest
+    either_reads (ltb tag 64) (λ end bytes. Ok (frame_of tag tag [] [], bytes)) (not_same pool at tag) (IsFramed pool tag) tag_rest
     (λ low. let item : ltb tag 128 ≡ true = grind (arith, nat_tests) in
     as_reads (λ end bytes. Ok (frame_of tag tag [] [], bytes)) (λ f. f ≡ frame_of tag tag [] []) (λ f. []) (IsFramed pool tag) tag_rest (give_reads (frame_of tag tag [] []))
     (λ f e. subst (IsFramed pool tag) (sym e) (same_framed pool tag low)) (λ f q. framed_same pool tag f low q) (λ f q. rw (framed_same pool tag f low q, item) refl))
-    (λ high. either_reads (ltb tag 128) (with_item_at pool tag (tag - 64)) (λ end bytes. cond (ltb tag 247) (Err (bad_tag at tag)) (bind u2_at (behind_delta_at pool tag) end bytes)) (IsFramed pool tag) tag_rest
+    (λ high. either_reads (ltb tag 128) (with_item_at pool tag (tag - 64)) (not_item pool at tag) (IsFramed pool tag) tag_rest
     (λ low. as_reads (with_item_at pool tag (tag - 64)) (HasItem pool tag (tag - 64)) (λ f. flat_map frame_type f.stack) (IsFramed pool tag) tag_rest (with_item_reads pool few tag (tag - 64))
     (λ f h. item_framed pool tag f high low h) (λ f q. framed_item pool tag f high low q) (λ f q. rw (q.0, low) refl))
     (λ item. either_reads (ltb tag 247) (λ end bytes. Err (bad_tag at tag)) (bind u2_at (behind_delta_at pool tag)) (IsFramed pool tag) tag_rest

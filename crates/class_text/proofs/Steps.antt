@@ -1,18 +1,74 @@
 -- The parts of a production after the first, each knowing those before it.
-use Rattle.std.proofs.Common.{ℕ, Bool, false, cond, ◌&&◌, ◌||◌, List, map, codes, bytes_eq, Ok, Err}
+use Rattle.std.proofs.Common.{ℕ, eqb, ltb, ◌-◌, Bool, false, cond, ◌&&◌, ◌||◌, List, [], map, codes, bytes_eq, Ok, Err}
+use Rattle.std.specs.Str.{byte}
 use Rattle.class_model.specs.declared.constant_pool.Pool.{Pool}
 use Rattle.class_model.specs.declared.class_file.Class.{Class}
 use Rattle.class_model.specs.declared.class_file.Member.{Member}
+use Rattle.class_model.specs.declared.stack_map.StackFrame.{StackFrame}
+use Rattle.class_model.specs.declared.stack_map.FrameType.{FrameType}
+use Rattle.class_model.specs.declared.annotation.Element.{Element, roll-Element}
+use Rattle.class_model.specs.declared.annotation.Element.TheOpen.{Element-F}
 use Rattle.class_model.specs.declared.attribute_forms.Attribute.{Attribute, roll-Attribute}
 use Rattle.class_model.specs.declared.attribute_forms.Attribute.TheOpen.{Attribute-F}
 use Rattle.class_model.specs.declared.attribute_forms.Handler.{Handler}
 use Rattle.class_model.specs.Attributes.{Place, in_class, in_field, in_method, is_known, attribute_name}
 use Rattle.class_model.specs.Shape.{is_plain_class, has_code}
-use Rattle.class_text.specs.Reading.{bad_attribute, second_attribute, code_missing}
+use Rattle.class_text.specs.Reading.{bad_tag, bad_attribute, second_attribute, code_missing}
 use Rattle.class_text.specs.Readers.{Reader, u2_at, index_at, counted_at, counted_after}
+use Rattle.class_text.specs.Frames.{is_class, type_of, frame_of, with_item_at, with_locals_at, full_at, behind_delta_at}
+use Rattle.class_text.specs.Elements.{is_result, is_value, note_by, enum_at}
 use Rattle.class_text.specs.Attributes.{text_of, is_first, is_caught, handler_at, code_bytes_at, code_attributes_at, attributes_at}
 use Rattle.class_text.specs.Classes.{is_field_name, is_name_of_method, is_field_type, is_method_type, is_barred, field_at, method_at, is_super}
 use Rattle.class_text.proofs.Readers.{bind}
+
+-- ---- a type of a frame, behind its tag
+
+abbrev pub class_type : Pool → ℕ → Reader FrameType
+class_type pool tag = bind (index_at (is_class pool)) (λ n end bytes. Ok (type_of tag n, bytes))
+
+abbrev pub new_type : ℕ → Reader FrameType
+new_type tag = bind u2_at (λ n end bytes. Ok (type_of tag n, bytes))
+
+-- ---- a frame, behind its tag or its delta
+
+abbrev pub not_chop : Pool → ℕ → ℕ → Reader StackFrame
+not_chop pool tag delta end bytes = cond (ltb tag 255) (with_locals_at pool tag delta (tag - 251) end bytes) (full_at pool tag delta end bytes)
+
+abbrev pub not_far_item : Pool → ℕ → ℕ → Reader StackFrame
+not_far_item pool tag delta end bytes = cond (ltb tag 252) (Ok (frame_of tag delta [] [], bytes)) (not_chop pool tag delta end bytes)
+
+abbrev pub not_item : Pool → ℕ → ℕ → Reader StackFrame
+not_item pool at tag end bytes = cond (ltb tag 247) (Err (bad_tag at tag)) (bind u2_at (behind_delta_at pool tag) end bytes)
+
+abbrev pub not_same : Pool → ℕ → ℕ → Reader StackFrame
+not_same pool at tag end bytes = cond (ltb tag 128) (with_item_at pool tag (tag - 64) end bytes) (not_item pool at tag end bytes)
+
+-- ---- a value of an annotation, behind its tag
+
+abbrev pub constant_value : Pool → ℕ → Reader Element
+constant_value pool tag = bind (index_at (is_value pool tag)) (λ n end bytes. Ok (roll-Element (Element-F.Const tag n), bytes))
+
+abbrev pub class_value : Pool → Reader Element
+class_value pool = bind (index_at (is_result pool)) (λ n end bytes. Ok (roll-Element (Element-F.OfClass n), bytes))
+
+abbrev pub note_value : Pool → Reader Element → Reader Element
+note_value pool value = bind (note_by value pool) (λ n end bytes. Ok (roll-Element (Element-F.Nested n), bytes))
+
+abbrev pub array_value : Reader Element → Reader Element
+array_value value = bind (counted_at value) (λ vs end bytes. Ok (roll-Element (Element-F.Many vs), bytes))
+
+module _ (pool : Pool) (value : Reader Element) (at tag : ℕ) where
+  abbrev pub not_note : Reader Element
+  not_note end bytes = cond (eqb tag (byte "[")) (array_value value end bytes) (Err (bad_tag at tag))
+
+  abbrev pub not_class : Reader Element
+  not_class end bytes = cond (eqb tag (byte "@")) (note_value pool value end bytes) (not_note end bytes)
+
+  abbrev pub not_enum : Reader Element
+  not_enum end bytes = cond (eqb tag (byte "c")) (class_value pool end bytes) (not_class end bytes)
+
+  abbrev pub not_constant : Reader Element
+  not_constant end bytes = cond (eqb tag (byte "e")) (enum_at pool end bytes) (not_enum end bytes)
 
 -- ---- an attribute behind its name
 
