@@ -2,3 +2,5 @@ pub mod Loop
 pub mod Places
 pub mod Written
 pub mod Forms
+pub mod EqualTexts
+pub mod SeenMembers

@@ -1,3 +1,5 @@
 pub mod Faults
 pub mod Writing
 pub mod TextForms
+pub mod TextNumbers
+pub mod SeenMembers

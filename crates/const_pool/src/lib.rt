@@ -4,6 +4,7 @@
 #![tactic(auto)]
 
 mod judged_pool;
+mod member_keys;
 mod numbers;
 mod pool_fault;
 mod pool_reader;
@@ -11,9 +12,11 @@ mod pool_writer;
 mod room;
 mod targets;
 mod text_forms;
+mod text_numbers;
 mod write_fault;
 
 pub use judged_pool::JudgedPool;
+pub use member_keys::MemberKeys;
 pub use numbers::{u2_in, u4_in, u8_in};
 pub use pool_fault::PoolFault;
 pub use pool_reader::read_pool;
