@@ -10,6 +10,7 @@ mod pool_fault;
 mod pool_reader;
 mod pool_writer;
 mod room;
+mod tags;
 mod targets;
 mod text_forms;
 mod text_numbers;

@@ -15,6 +15,10 @@ use crate::judged_pool::JudgedPool;
 use crate::numbers::{u2_in, u4_in, u8_in};
 use crate::pool_fault::PoolFault;
 use crate::room::items_with_room;
+use crate::tags::{
+    CLASS_TAG, DOUBLE_TAG, FLOAT_TAG, INTEGER_TAG, INVOKE_DYNAMIC_TAG, LONG_TAG, METHOD_HANDLE_TAG,
+    METHOD_TYPE_TAG, NAME_AND_TYPE_TAG, STRING_TAG, UTF8_TAG,
+};
 use crate::targets::has_targets;
 use crate::text_forms::TextTable;
 use class_model::{Constant, Constants, Pool, is_modified_utf8};
@@ -71,41 +75,41 @@ fn ref_in(tag: u8, bytes: &[u8]) -> Option<(Constant, &[u8])>
 fn fixed_in(tag: u8, bytes: &[u8]) -> Option<(Constant, &[u8])>
     ensures { option_map (λ r. (r.0, r.1.now)) result ≡ fixed_at tag bytes.now }
 {
-    if tag == 3 {
+    if tag == INTEGER_TAG {
         let (n, rest) = u4_in(bytes)?;
         return Some((Constant::Integer(n), rest));
     }
-    if tag == 4 {
+    if tag == FLOAT_TAG {
         let (n, rest) = u4_in(bytes)?;
         return Some((Constant::Float(n), rest));
     }
-    if tag == 5 {
+    if tag == LONG_TAG {
         let (n, rest) = u8_in(bytes)?;
         return Some((Constant::Long(n), rest));
     }
-    if tag == 6 {
+    if tag == DOUBLE_TAG {
         let (n, rest) = u8_in(bytes)?;
         return Some((Constant::Double(n), rest));
     }
-    if tag == 7 {
+    if tag == CLASS_TAG {
         let (name, rest) = u2_in(bytes)?;
         return Some((Constant::Class(name), rest));
     }
-    if tag == 8 {
+    if tag == STRING_TAG {
         let (text, rest) = u2_in(bytes)?;
         return Some((Constant::Text(text), rest));
     }
-    if tag == 12 {
+    if tag == NAME_AND_TYPE_TAG {
         return name_type_in(bytes);
     }
-    if tag == 15 {
+    if tag == METHOD_HANDLE_TAG {
         return handle_in(bytes);
     }
-    if tag == 16 {
+    if tag == METHOD_TYPE_TAG {
         let (descriptor, rest) = u2_in(bytes)?;
         return Some((Constant::MethodType(descriptor), rest));
     }
-    if tag == 18 {
+    if tag == INVOKE_DYNAMIC_TAG {
         return dynamic_in(bytes);
     }
     ref_in(tag, bytes)
@@ -142,13 +146,19 @@ fn utf8_in(alloc: Global, at: u32, bytes: &[u8]) -> Result<(Constant, &[u8]), Po
 fn is_tag(tag: u8) -> bool
     ensures { result ≡ is_tag tag }
 {
-    matches!(tag, 1 | 3..=12 | 15 | 16 | 18)
+    matches!(
+        tag,
+        UTF8_TAG | INTEGER_TAG..=NAME_AND_TYPE_TAG
+            | METHOD_HANDLE_TAG
+            | METHOD_TYPE_TAG
+            | INVOKE_DYNAMIC_TAG
+    )
 }
 
 fn is_wide(tag: u8) -> bool
     ensures { result ≡ is_wide tag }
 {
-    tag == 5 || tag == 6
+    tag == LONG_TAG || tag == DOUBLE_TAG
 }
 
 /// The constant at the front, where so many numbers are left.
@@ -171,7 +181,7 @@ fn constant_in(
     if is_wide(*tag) && left < 2 {
         return Err(PoolFault::BadTag(at, *tag));
     }
-    if *tag == 1 {
+    if *tag == UTF8_TAG {
         return utf8_in(alloc, at, rest);
     }
     match fixed_in(*tag, rest) {

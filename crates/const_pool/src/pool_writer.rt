@@ -9,6 +9,11 @@ ghost use Rattle.const_pool.specs.TextForms.{IsTableOf};
 ghost use Rattle.const_pool.specs.Writing.{is_short, is_formed, is_placed, misfit_of, misfit_from, misfit, Names};
 
 use crate::pool_reader::takes_two;
+use crate::tags::{
+    CLASS_TAG, DOUBLE_TAG, FIELD_TAG, FLOAT_TAG, INTEGER_TAG, INTERFACE_METHOD_TAG,
+    INVOKE_DYNAMIC_TAG, LONG_TAG, METHOD_HANDLE_TAG, METHOD_TYPE_TAG, NAME_AND_TYPE_TAG,
+    STRING_TAG, UTF8_TAG,
+};
 use crate::targets::has_targets;
 use crate::text_forms::TextTable;
 use crate::write_fault::{Part, WriteFault};
@@ -26,9 +31,9 @@ fn is_short(constant: &Constant) -> bool
 }
 
 fn is_reference_tag(tag: u8) -> bool
-    ensures { result ≡ (nat_le 9 tag && nat_le tag 11) }
+    ensures { result ≡ (nat_le FIELD_TAG tag && nat_le tag INTERFACE_METHOD_TAG) }
 {
-    9 <= tag && tag <= 11
+    FIELD_TAG <= tag && tag <= INTERFACE_METHOD_TAG
 }
 
 fn is_formed(constant: &Constant) -> bool
@@ -139,17 +144,17 @@ fn put_pair(out: &mut Vec<u8>, tag: u8, m: u16, n: u16) -> Result<(), AllocError
 }
 
 fn put_handle(out: &mut Vec<u8>, kind: u8, reference: u16) -> Result<(), AllocError>
-    ensures { OnOk result (out.new.items ≡ out.old.items ++ (15 ∷ kind ∷ to_be_bytes w16 reference)) }
+    ensures { OnOk result (out.new.items ≡ out.old.items ++ (METHOD_HANDLE_TAG ∷ kind ∷ to_be_bytes w16 reference)) }
 {
-    out.push(15)?;
+    out.push(METHOD_HANDLE_TAG)?;
     put_index(out, kind, reference)
 }
 
 fn put_text(out: &mut Vec<u8>, text: &[u8]) -> Result<(), AllocError>
     requires { length text.now < 2 ^ 16 }
-    ensures { OnOk result (out.new.items ≡ out.old.items ++ (1 ∷ to_be_bytes w16 (length text.now) ++ text.now)) }
+    ensures { OnOk result (out.new.items ≡ out.old.items ++ (UTF8_TAG ∷ to_be_bytes w16 (length text.now) ++ text.now)) }
 {
-    put_index(out, 1, text.len() as u16)?;
+    put_index(out, UTF8_TAG, text.len() as u16)?;
     out.extend_from_slice(text)
 }
 
@@ -163,24 +168,29 @@ fn put_constant(out: &mut Vec<u8>, constant: &Constant) -> Result<(), AllocError
 {
     match constant {
         Constant::Utf8(text) => put_text(out, text.as_slice()),
-        Constant::Integer(n) => put_word(out, 3, *n),
-        Constant::Float(n) => put_word(out, 4, *n),
-        Constant::Long(n) => put_long(out, 5, *n),
-        Constant::Double(n) => put_long(out, 6, *n),
-        Constant::Class(name) => put_index(out, 7, *name),
-        Constant::Text(text) => put_index(out, 8, *text),
+        Constant::Integer(n) => put_word(out, INTEGER_TAG, *n),
+        Constant::Float(n) => put_word(out, FLOAT_TAG, *n),
+        Constant::Long(n) => put_long(out, LONG_TAG, *n),
+        Constant::Double(n) => put_long(out, DOUBLE_TAG, *n),
+        Constant::Class(name) => put_index(out, CLASS_TAG, *name),
+        Constant::Text(text) => put_index(out, STRING_TAG, *text),
         Constant::Ref {
             tag,
             class,
             name_type,
         } => put_pair(out, *tag, *class, *name_type),
-        Constant::NameType { name, descriptor } => put_pair(out, 12, *name, *descriptor),
+        Constant::NameType { name, descriptor } => put_pair(
+            out,
+            NAME_AND_TYPE_TAG,
+            *name,
+            *descriptor,
+        ),
         Constant::Handle { kind, reference } => put_handle(out, *kind, *reference),
-        Constant::MethodType(descriptor) => put_index(out, 16, *descriptor),
+        Constant::MethodType(descriptor) => put_index(out, METHOD_TYPE_TAG, *descriptor),
         Constant::InvokeDynamic {
             bootstrap,
             name_type,
-        } => put_pair(out, 18, *bootstrap, *name_type),
+        } => put_pair(out, INVOKE_DYNAMIC_TAG, *bootstrap, *name_type),
         Constant::Second => Ok(()),
     }
 }

@@ -5,6 +5,7 @@ ghost use Rattle.std.specs.List.{list_any};
 ghost use Rattle.class_model.specs.Constants.{constant_at, is_some_that, is_for_field, is_for_method, is_reference, handle_tags, has_targets};
 ghost use Rattle.const_pool.specs.TextForms.{IsTableOf};
 
+use crate::tags::{FIELD_TAG, INTERFACE_METHOD_TAG, METHOD_TAG};
 use crate::text_forms::TextTable;
 use class_model::{Constant, Pool};
 
@@ -34,10 +35,10 @@ fn takes_tag(kind: u8, tag: u8) -> bool
     ensures { result ≡ list_any (λ t. t == tag) (handle_tags kind) }
 {
     match kind {
-        1..=4 => tag == 9,
-        5 | 8 => tag == 10,
-        6 | 7 => tag == 10 || tag == 11,
-        9 => tag == 11,
+        1..=4 => tag == FIELD_TAG,
+        5 | 8 => tag == METHOD_TAG,
+        6 | 7 => tag == METHOD_TAG || tag == INTERFACE_METHOD_TAG,
+        9 => tag == INTERFACE_METHOD_TAG,
         _ => false,
     }
 }
@@ -59,7 +60,7 @@ fn is_member(pool: &Pool, texts: &TextTable, tag: u8, class: u16, name_type: u16
     if !pool.is_class(class) {
         return false;
     }
-    if tag == 9 {
+    if tag == FIELD_TAG {
         return is_for_field(pool, texts, name_type);
     }
     is_for_method(pool, texts, name_type)
