@@ -4,20 +4,20 @@ ghost use Rattle.std.specs.Prelude.{◌≡◌, ◌++◌, ◌∷◌, [], ◌<◌,
 ghost use Rattle.std.specs.List.{list_any};
 ghost use Rattle.class_model.specs.declared.class_file.Member.{Member};
 ghost use Rattle.class_model.specs.Shape.{IsField, IsMethod, IsMembers, are_same};
-ghost use Rattle.class_model.specs.SeenMembers.{HasSeen};
 ghost use Rattle.class_model.specs.Spelling as spelling;
+ghost use Rattle.const_pool.specs.SeenMembers.{HasSeen};
 ghost use Rattle.class_write.specs.Misfits as misfits;
 ghost use Rattle.class_write.specs.Order.{Refuses};
 
 use crate::attributes::{Stand, put_attributes};
 use crate::order::put_count;
-use class_model::{Member, MemberNames, Pool, has_code, is_bare, most_slots};
-use const_pool::{Holder, MemberPart, Part, WriteFault, put_u2};
+use class_model::{Member, Pool, has_code, is_bare, most_slots};
+use const_pool::{Holder, MemberKeys, MemberPart, Part, WriteFault, put_u2};
 use std::alloc::Global;
 
 /// Enters a member behind those before it, and tells whether one of them has its name and descriptor.
 fn enter<'a>(
-    seen: &mut MemberNames<'a>,
+    seen: &mut MemberKeys<'a>,
     pool: &'a Pool,
     member: &Member,
 ) -> Result<bool, WriteFault>
@@ -86,7 +86,7 @@ pub(crate) fn put_fields(
     ensures fault { IfErr result (λ e. Refuses e (misfits.fields pool.now fields.now)) }
 {
     put_count(out, Part::Fields, fields.len())?;
-    let mut seen = MemberNames::new(alloc);
+    let mut seen = MemberKeys::new(alloc);
     for i in 0..fields.len() {
         let field = &fields[i];
         let double = enter(&mut seen, pool, field)?;
@@ -150,7 +150,7 @@ pub(crate) fn put_methods(
     ensures fault { IfErr result (λ e. Refuses e (misfits.methods pool.now methods.now)) }
 {
     put_count(out, Part::Methods, methods.len())?;
-    let mut seen = MemberNames::new(alloc);
+    let mut seen = MemberKeys::new(alloc);
     for i in 0..methods.len() {
         let method = &methods[i];
         let double = enter(&mut seen, pool, method)?;

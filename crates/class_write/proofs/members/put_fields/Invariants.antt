@@ -2,7 +2,7 @@ use Rattle.std.proofs.Common.{◌≡◌, true, take}
 use Rattle.class_model.specs.Attributes.{once_each}
 use Rattle.class_model.specs.Shape.{IsField, are_same}
 use Rattle.class_model.specs.Spelling as spelling
-use Rattle.class_model.specs.SeenMembers.{HasSeen}
+use Rattle.const_pool.specs.SeenMembers.{HasSeen}
 use Rattle.class_write.specs.Misfits as misfits
 use Rattle.class_write.proofs.Lists.{SoFar}
 use Rattle.class_write.proofs.members.put_fields.Given as goal
