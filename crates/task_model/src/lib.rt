@@ -6,5 +6,5 @@
 mod task_name;
 mod task_row;
 
-pub use task_name::{MAX_NAME_LEN, MAX_SEGMENT_LEN, is_task_name};
+pub use task_name::{MAX_NAME_LEN, MAX_SEGMENT_LEN, is_name_segment, is_task_name};
 pub use task_row::{Kind, TaskId, TaskIds, TaskRow, TaskRows};

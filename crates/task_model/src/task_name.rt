@@ -28,8 +28,9 @@ fn all_may_follow(bytes: &[u8]) -> bool
     bytes.iter().all(|byte| may_follow(*byte))
 }
 
+/// Whether bytes are one segment of a task's name.
 #[tactic(auto, unfolding(crate::specs::TaskNames::is_name_segment))]
-fn is_name_segment(bytes: &[u8]) -> bool
+pub fn is_name_segment(bytes: &[u8]) -> bool
     ensures { result ≡ is_name_segment bytes.now }
 {
     match bytes.split_first() {

@@ -1,0 +1,9 @@
+pub mod Causes
+pub mod Numbers
+pub mod Options
+pub mod Places
+pub mod Requests
+pub mod Segments
+pub mod Spots
+pub mod Verbs
+pub mod Words
