@@ -1,9 +1,12 @@
 pub mod Causes
+pub mod Marks
+pub mod Matching
 pub mod Numbers
 pub mod Options
 pub mod Places
 pub mod Requests
 pub mod Segments
+pub mod Selected
 pub mod Spots
 pub mod Verbs
 pub mod Words
