@@ -4,3 +4,4 @@ pub mod GroupLaws
 pub mod ListLaws
 pub mod MarkLaws
 pub mod SelectLaws
+pub mod ChosenLaws

@@ -1,4 +1,5 @@
 pub mod Causes
+pub mod Chosen
 pub mod Marks
 pub mod Matching
 pub mod Numbers

@@ -29,7 +29,7 @@ fn copied(word: &Text) -> Result<Text, AllocError>
     }
 }
 
-fn lines(alloc: Global, words: &[Text]) -> Result<Lines, AllocError>
+pub(crate) fn lines(alloc: Global, words: &[Text]) -> Result<Lines, AllocError>
     ensures { IfOk result (λ lines. lines ≡ words.now) }
 {
     let mut lines = Vec::with_capacity(alloc, words.len())?;

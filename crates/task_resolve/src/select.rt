@@ -24,7 +24,7 @@ fn is_named_task(kind: Kind) -> bool
     }
 }
 
-fn is_command(kind: Kind) -> bool
+pub(crate) fn is_command(kind: Kind) -> bool
     ensures { result ≡ is_command kind }
 {
     match kind {
@@ -37,7 +37,11 @@ fn is_command(kind: Kind) -> bool
 }
 
 #[tactic(auto, unfolding(crate::specs::Selected::is_selected))]
-fn is_selected(alloc: Global, selector: &Selector, task: &TaskRow) -> Result<bool, AllocError>
+pub(crate) fn is_selected(
+    alloc: Global,
+    selector: &Selector,
+    task: &TaskRow,
+) -> Result<bool, AllocError>
     ensures { IfOk result (λ is. is ≡ is_selected selector.now task.now) }
 {
     if is_named_task(task.kind) {
