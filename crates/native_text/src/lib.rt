@@ -1,5 +1,8 @@
-//! The natives of texts, boxes, numbers, throwables and other objects: one function each, whose clause says that it
+//! Natives of texts, builders, boxes, numbers, throwables and other objects: one function each, whose clause says that it
 //! answers as `native_model` defines, over the world that is kept there.
+//!
+//! It stands on `native_model` and `jvm_heap`. What calls a native by its row is to stand above it; natives that call back,
+//! and those of lists and files, aren't here yet.
 #![tactic(auto)]
 
 mod boxes;
