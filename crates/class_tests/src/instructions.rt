@@ -1,5 +1,6 @@
 //! The rows of the table of instructions (JVMS 6.5).
 
+use class_code::told_by_row;
 use jvm_tables::{Flow, Form, OpRow, Operands, Operation, ValueKind, op_row};
 use questions::{Unanswered, hex_number};
 use std::alloc::{AllocError, Global};
@@ -157,23 +158,28 @@ fn letter(kind: ValueKind) -> &'static str {
     }
 }
 
-/// The kinds of operands by their letters, the last on top; a dot where the row alone does not tell them.
-fn letters(alloc: Global, operands: Operands) -> Result<String, AllocError> {
+/// Kinds by their letters, the last on top.
+fn letters(alloc: Global, kinds: &[ValueKind]) -> Result<String, AllocError> {
     let mut text = String::new(alloc);
-    match operands.kinds() {
-        None => text.push_str(".")?,
-        Some(kinds) => for kind in kinds {
-            text.push_str(letter(*kind))?;
-        },
+    for kind in kinds {
+        text.push_str(letter(*kind))?;
     }
     Ok(text)
+}
+
+/// The kinds of operands; a dot where the row alone does not tell them.
+fn operands_text(alloc: Global, operands: Operands) -> Result<String, AllocError> {
+    match operands.kinds() {
+        None => ".".to_string(alloc),
+        Some(kinds) => letters(alloc, kinds),
+    }
 }
 
 /// Operation, kinds that are taken and given, the constant or local that is implied, flow, and whether it initialises.
 fn effect(alloc: Global, row: &OpRow) -> Result<String, AllocError> {
     let operation = operation_name(row.operation);
-    let takes = letters(alloc, row.takes)?;
-    let gives = letters(alloc, row.gives)?;
+    let takes = operands_text(alloc, row.takes)?;
+    let gives = operands_text(alloc, row.gives)?;
     let implied = row.implied;
     let flow = flow_name(row.flow);
     let initialises = if row.initialises { " initialises" } else { "" };
@@ -214,6 +220,21 @@ fn thrown_answer(alloc: Global, opcode: u8) -> Result<String, AllocError> {
     Ok(text)
 }
 
+/// The kinds that are taken and given, where the row alone tells both.
+fn told_answer(alloc: Global, opcode: u8) -> Result<String, AllocError> {
+    let Some(row) = op_row(opcode) else {
+        return "none".to_string(alloc);
+    };
+    match told_by_row(&row) {
+        None => "told by no row".to_string(alloc),
+        Some((takes, gives)) => {
+            let takes = letters(alloc, takes)?;
+            let gives = letters(alloc, gives)?;
+            format!(in alloc; "{takes} to {gives}")
+        }
+    }
+}
+
 fn opcode_of(word: &str) -> Result<u8, Unanswered> {
     u8::try_from(hex_number(word)?).map_err(|_| Unanswered::BadQuestion)
 }
@@ -222,6 +243,7 @@ pub fn answer_to(alloc: Global, words: &[&str]) -> Result<String, Unanswered> {
     match words {
         ["opcode", word] => Ok(opcode_answer(alloc, opcode_of(word)?)?),
         ["thrown", word] => Ok(thrown_answer(alloc, opcode_of(word)?)?),
+        ["told", word] => Ok(told_answer(alloc, opcode_of(word)?)?),
         _ => Err(Unanswered::BadQuestion),
     }
 }
