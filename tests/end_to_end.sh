@@ -4,7 +4,8 @@ set -eu
 top=$(cd "$(dirname "$0")/.." && pwd)
 program=$(sh "$top/scripts/built.sh")
 work=$(mktemp -d)
-trap 'rm -rf "$work"' EXIT
+mounted=
+trap '[ -z "$mounted" ] || umount "$mounted" || true; rm -rf "$work"' EXIT
 failed=0
 
 # A fresh copy of the example, as the current folder.
@@ -374,6 +375,61 @@ expect_fault "a name of a source that is no text" 5 "workspace fault"
 rm "classes/$ill"
 expect_healed "a name of a source that is no text"
 
+# An edit makes the command put an entry, which is refused; the entry before stands, and no file of the put is left: a name.
+expect_unput() {
+    cp out/a.json "$work/entry_before"
+    set_byte classes/A.class 139 007
+    expect "$1" 4 "store fault" -j 1 show a
+    set_byte classes/A.class 139 010
+    same "$1: entry" "$work/entry_before" out/a.json
+    [ -z "$(find out/.put -type f)" ] || {
+        echo "$1: the file of a put is left"
+        failed=1
+    }
+}
+
+# The same edit is put once the cause is gone.
+expect_put() {
+    set_byte classes/A.class 139 007
+    expect "$1, once it is gone" 0 4 -j 1 show a
+    set_byte classes/A.class 139 010
+}
+
+# A small file system of its own on a folder of the build.
+mount_on() {
+    mount -t tmpfs -o size=64k tmpfs "$work/build/$1" && mounted="$work/build/$1"
+}
+
+unmount() {
+    umount "$mounted" && mounted=
+}
+
+fresh first
+mkdir out
+if [ "$(id -u)" = 0 ] && mount_on out 2>/dev/null; then
+    expect "an out of its own" 0 5 -j 1 show a
+    expect_entry "an out of its own" a 1 "$(input_hash A a)" 5
+    dd if=/dev/zero of=out/filler bs=4096 2>/dev/null || true
+    expect_unput "a full disk"
+    rm out/filler
+    expect_put "a full disk"
+    expect "a full disk, before it is only read" 0 5 -j 1 show a
+    mount -o remount,ro "$mounted"
+    expect "an out that is only read, without a put" 0 5 -j 1 show a
+    expect_unput "an out that is only read"
+    mount -o remount,rw "$mounted"
+    expect_put "an out that is only read"
+    unmount
+    fresh first
+    expect "before the folder for puts is elsewhere" 0 5 -j 1 show a
+    mount_on out/.put
+    expect_unput "a folder for puts on another file system"
+    unmount
+    expect_put "a folder for puts on another file system"
+else
+    echo "a full disk, another file system: not tried, this user may mount none"
+fi
+
 # Programs side by side over one folder, each of which runs the task anew.
 beside() {
     runs=0
@@ -424,6 +480,14 @@ else
         chmod 755 "$place"
         expect_healed "no leave to write in $place"
     done
+    if [ "$(id -u)" = 0 ]; then
+        chown 0 out/.put
+        expect_unput "a folder for puts of another user"
+        chown 65534 out/.put
+        expect_put "a folder for puts of another user"
+    else
+        echo "a folder for puts of another user: not tried, this user may give none away"
+    fi
 fi
 
 # The sources that builds compile against have the methods of the tables, and compile.
