@@ -1,7 +1,7 @@
 //! Fields and methods (JVMS 4.5 and 4.6).
 
 ghost use Rattle.std.specs.Prelude.{◌≡◌, ◌++◌, ◌∷◌, [], IfOk};
-ghost use Rattle.class_model.specs.SeenMembers.{HasSeen};
+ghost use Rattle.const_pool.specs.SeenMembers.{HasSeen};
 ghost use Rattle.class_text.specs.Readers.{index_at, many_after, counted_after};
 ghost use Rattle.class_text.specs.Classes.{is_field_type, is_method_type, field_at, method_at};
 ghost use Rattle.class_read.specs.Faults.{Gives};
@@ -12,32 +12,32 @@ use crate::class_fault::ClassFault;
 use crate::numbers::{place_of, u2_in};
 use crate::stands::Stand;
 use crate::targets::{field_name_in, method_name_in};
-use class_model::{Member, MemberNames, Members, has_code, is_bare, is_static};
-use const_pool::{JudgedPool, items_with_room};
+use class_model::{Member, Members, has_code, is_bare, is_static};
+use const_pool::{JudgedPool, MemberKeys, items_with_room};
 use std::alloc::{AllocError, Global};
 
 /// The members before one, and their names and descriptors.
 #[derive(Drop)]
 struct Before<'p> {
     list: Members,
-    names: MemberNames<'p>,
+    keys: MemberKeys<'p>,
 }
 
 impl<'p> Before<'p> {
     ghost use Rattle.std.specs.Prelude.{◌≡◌, [], IfOk, OnOk};
     ghost use Rattle.class_model.specs.declared.constant_pool.Pool.{Pool};
-    ghost use Rattle.class_model.specs.SeenMembers.{HasSeen};
+    ghost use Rattle.const_pool.specs.SeenMembers.{HasSeen};
     ghost use Rattle.class_text.specs.Classes.{is_new};
     ghost use Rattle.class_read.specs.Entered.{IsEntered};
 
     /// No members, with room for so many that stand at the front of bytes.
     fn new(alloc: Global, count: u16, bytes: &[u8]) -> Result<Before<'p>, AllocError>
         ensures none { IfOk result (λ before. before.list ≡ []) }
-        ensures seen { IfOk result (λ before. (pool : Pool) → HasSeen pool [] before.names) }
+        ensures seen { IfOk result (λ before. (pool : Pool) → HasSeen pool [] before.keys) }
     {
         let list = items_with_room(alloc, count, bytes.len(), 8)?;
-        let names = MemberNames::new(alloc);
-        Ok(Before { list, names })
+        let keys = MemberKeys::new(alloc);
+        Ok(Before { list, keys })
     }
 
     /// Enters a name and a descriptor, and tells whether no member before has both.
@@ -47,12 +47,12 @@ impl<'p> Before<'p> {
         name: u16,
         descriptor: u16,
     ) -> Result<bool, AllocError>
-        requires { HasSeen pool.now self.old.list self.old.names }
+        requires { HasSeen pool.now self.old.list self.old.keys }
         ensures first { IfOk result (λ first. first ≡ is_new pool.now self.old.list name descriptor) }
         ensures list { self.new.list ≡ self.old.list }
-        ensures seen { OnOk result (IsEntered pool.now name descriptor self.old.list self.new.names) }
+        ensures seen { OnOk result (IsEntered pool.now name descriptor self.old.list self.new.keys) }
     {
-        let first = self.names.insert(pool.as_pool(), name, descriptor)?;
+        let first = self.keys.insert(pool.as_pool(), name, descriptor)?;
         Ok(first)
     }
 }
@@ -66,10 +66,10 @@ fn field_type_in<'a, 'p>(
     end: u32,
     bytes: &'a [u8],
 ) -> Result<(u16, &'a [u8]), ClassFault>
-    requires { HasSeen pool.now before.old.list before.old.names }
+    requires { HasSeen pool.now before.old.list before.old.keys }
     ensures read { Gives (λ r. (r.0, r.1.now)) result (index_at (is_field_type pool.now before.old.list name) end bytes.now) }
     ensures list { before.new.list ≡ before.old.list }
-    ensures seen { IfOk result (λ r. IsEntered pool.now name r.0 before.old.list before.new.names) }
+    ensures seen { IfOk result (λ r. IsEntered pool.now name r.0 before.old.list before.new.keys) }
 {
     let (number, rest) = u2_in(end, bytes)?;
     if !pool.is_field_type(number) {
@@ -91,10 +91,10 @@ fn method_type_in<'a, 'p>(
     end: u32,
     bytes: &'a [u8],
 ) -> Result<(u16, &'a [u8]), ClassFault>
-    requires { HasSeen pool.now before.old.list before.old.names }
+    requires { HasSeen pool.now before.old.list before.old.keys }
     ensures read { Gives (λ r. (r.0, r.1.now)) result (index_at (is_method_type pool.now before.old.list flags name) end bytes.now) }
     ensures list { before.new.list ≡ before.old.list }
-    ensures seen { IfOk result (λ r. IsEntered pool.now name r.0 before.old.list before.new.names) }
+    ensures seen { IfOk result (λ r. IsEntered pool.now name r.0 before.old.list before.new.keys) }
 {
     let (number, rest) = u2_in(end, bytes)?;
     if !pool.is_method_type(is_static(flags), number) {
@@ -115,10 +115,10 @@ fn field_in<'a, 'p>(
     end: u32,
     bytes: &'a [u8],
 ) -> Result<(Member, &'a [u8]), ClassFault>
-    requires { HasSeen pool.now before.old.list before.old.names }
+    requires { HasSeen pool.now before.old.list before.old.keys }
     ensures read { Gives (λ r. (r.0, r.1.now)) result (field_at pool.now before.old.list end bytes.now) }
     ensures list { before.new.list ≡ before.old.list }
-    ensures seen { IfOk result (λ r. HasSeen pool.now (before.old.list ++ r.0 ∷ []) before.new.names) }
+    ensures seen { IfOk result (λ r. HasSeen pool.now (before.old.list ++ r.0 ∷ []) before.new.keys) }
 {
     let (flags, rest) = u2_in(end, bytes)?;
     let (name, rest) = field_name_in(pool, end, rest)?;
@@ -143,10 +143,10 @@ fn method_in<'a, 'p>(
     end: u32,
     bytes: &'a [u8],
 ) -> Result<(Member, &'a [u8]), ClassFault>
-    requires { HasSeen pool.now before.old.list before.old.names }
+    requires { HasSeen pool.now before.old.list before.old.keys }
     ensures read { Gives (λ r. (r.0, r.1.now)) result (method_at pool.now before.old.list end bytes.now) }
     ensures list { before.new.list ≡ before.old.list }
-    ensures seen { IfOk result (λ r. HasSeen pool.now (before.old.list ++ r.0 ∷ []) before.new.names) }
+    ensures seen { IfOk result (λ r. HasSeen pool.now (before.old.list ++ r.0 ∷ []) before.new.keys) }
 {
     let (flags, rest) = u2_in(end, bytes)?;
     let (name, rest) = method_name_in(pool, end, rest)?;
