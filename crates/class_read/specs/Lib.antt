@@ -1,5 +1,6 @@
 pub mod Faults
 pub mod Stands
+pub mod Targets
 pub mod Entered
 pub mod ClassFiles
 pub mod Twice

@@ -8,13 +8,12 @@ ghost use Rattle.class_read.specs.Faults.{Gives};
 
 use crate::class_fault::ClassFault;
 use crate::numbers::{place_of, u1_in, u2_in};
-use crate::targets::{result_in, text_in, type_in, value_in};
+use crate::targets::{Target, index_in};
 use class_model::{Element, Elements, GREATEST_DEPTH, Note, Notes, Pair, Pairs};
 use const_pool::JudgedPool;
 use sqlite_items::Items;
 use std::alloc::Global;
 
-/// The values of annotations nest at most so deep.
 fn is_constant_tag(tag: u8) -> bool
     ensures { result ≡ is_constant_tag tag }
 {
@@ -32,8 +31,8 @@ fn enum_in<'a>(
 ) -> Result<(Element, &'a [u8]), ClassFault>
     ensures { Gives (λ r. (r.0, r.1.now)) result (enum_at pool.now end bytes.now) }
 {
-    let (kind, rest) = type_in(pool, end, bytes)?;
-    let (name, rest) = text_in(pool, end, rest)?;
+    let (kind, rest) = index_in(pool, Target::FieldType, end, bytes)?;
+    let (name, rest) = index_in(pool, Target::Text, end, rest)?;
     Ok((Element::Enum { kind, name }, rest))
 }
 
@@ -82,14 +81,14 @@ fn tagged_in<'a>(
     ensures { Gives (λ r. (r.0, r.1.now)) result (tagged_by (element_at at pool.now depth) pool.now place tag end bytes.now) }
 {
     if is_constant_tag(tag) {
-        let (index, rest) = value_in(pool, tag, end, bytes)?;
+        let (index, rest) = index_in(pool, Target::ValueOf(tag), end, bytes)?;
         return Ok((Element::Const { tag, index }, rest));
     }
     if tag == b'e' {
         return enum_in(pool, end, bytes);
     }
     if tag == b'c' {
-        let (class, rest) = result_in(pool, end, bytes)?;
+        let (class, rest) = index_in(pool, Target::ReturnType, end, bytes)?;
         return Ok((Element::OfClass(class), rest));
     }
     if tag == b'@' {
@@ -116,7 +115,7 @@ fn note_in<'a>(
 ) -> Result<(Note, &'a [u8]), ClassFault>
     ensures { Gives (λ r. (r.0, r.1.now)) result (note_by (element_at at pool.now depth) pool.now end bytes.now) }
 {
-    let (kind, rest) = type_in(pool, end, bytes)?;
+    let (kind, rest) = index_in(pool, Target::FieldType, end, bytes)?;
     let (pairs, rest) = counted_pairs_in(alloc, pool, at, depth, end, rest)?;
     Ok((Note { kind, pairs }, rest))
 }
@@ -176,7 +175,7 @@ fn pair_in<'a>(
 ) -> Result<(Pair, &'a [u8]), ClassFault>
     ensures { Gives (λ r. (r.0, r.1.now)) result (pair_by (element_at at pool.now depth) pool.now end bytes.now) }
 {
-    let (name, rest) = text_in(pool, end, bytes)?;
+    let (name, rest) = index_in(pool, Target::Text, end, bytes)?;
     let (value, rest) = element_in(alloc, pool, at, depth, end, rest)?;
     Ok((Pair { name, value }, rest))
 }

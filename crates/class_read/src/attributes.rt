@@ -14,7 +14,7 @@ use crate::class_fault::ClassFault;
 use crate::frames::frames_in;
 use crate::numbers::{place_of, run_in, u2_in, u4_in};
 use crate::stands::{Found, Stand, is_known, own_name};
-use crate::targets::{caught_in, field_value_in, handle_in, loadable_in, text_in};
+use crate::targets::{Target, index_in};
 use class_model::{Attribute, Attributes, Bootstrap, Bootstraps, Handler, Handlers, Indices};
 use const_pool::JudgedPool;
 use sqlite_items::Items;
@@ -31,7 +31,7 @@ fn handler_in<'a>(
     let (start, rest) = u2_in(end, bytes)?;
     let (stop, rest) = u2_in(end, rest)?;
     let (handler, rest) = u2_in(end, rest)?;
-    let (catch_type, rest) = caught_in(pool, end, rest)?;
+    let (catch_type, rest) = index_in(pool, Target::Caught, end, rest)?;
     let found = Handler {
         start,
         end: stop,
@@ -91,7 +91,7 @@ fn arguments_in<'a>(
     let mut items = Items::new(alloc);
     let mut rest = bytes;
     for i in 0..count {
-        match loadable_in(pool, end, rest) {
+        match index_in(pool, Target::Loadable, end, rest) {
             Ok((item, more)) => {
                 items.push(item)?;
                 rest = more;
@@ -124,7 +124,7 @@ fn bootstrap_in<'a>(
 ) -> Result<(Bootstrap, &'a [u8]), ClassFault>
     ensures { Gives (λ r. (r.0, r.1.now)) result (bootstrap_at pool.now end bytes.now) }
 {
-    let (handle, rest) = handle_in(pool, end, bytes)?;
+    let (handle, rest) = index_in(pool, Target::Handle, end, bytes)?;
     let (arguments, rest) = counted_arguments_in(alloc, pool, end, rest)?;
     Ok((Bootstrap { handle, arguments }, rest))
 }
@@ -209,7 +209,7 @@ fn constant_value_in<'a>(
 ) -> Result<(Attribute, &'a [u8]), ClassFault>
     ensures { Gives (λ r. (r.0, r.1.now)) result (constant_value_at pool.now descriptor.now name end bytes.now) }
 {
-    let (value, rest) = field_value_in(pool, descriptor, end, bytes)?;
+    let (value, rest) = index_in(pool, Target::ValueFor(descriptor), end, bytes)?;
     Ok((Attribute::ConstantValue { name, value }, rest))
 }
 
@@ -302,7 +302,7 @@ fn named_in<'a>(
     requires { Keeps pool.now (stand_of stand) found.now }
     ensures { Gives (λ r. (r.0, r.1.now)) result (named_at pool.now (stand_of stand.entry) barred found.now.list end bytes.now) }
 {
-    let (name, rest) = text_in(pool, end, bytes)?;
+    let (name, rest) = index_in(pool, Target::Text, end, bytes)?;
     let text = pool.as_pool().text_or_empty(name);
     if !found.is_first(pool, stand, text) {
         return Err(ClassFault::SecondAttribute(place_of(end, bytes)));

@@ -18,7 +18,7 @@ use crate::class_fault::ClassFault;
 use crate::members::{fields_in, methods_in};
 use crate::numbers::{place_of, u2_in, u4_in};
 use crate::stands::Stand;
-use crate::targets::{plain_class_in, super_in};
+use crate::targets::{Target, index_in};
 use class_model::{Class, Indices, MAGIC};
 use const_pool::{JudgedPool, PoolFault, read_pool};
 use sqlite_items::Items;
@@ -91,7 +91,7 @@ fn classes_in<'a>(
     let mut items = Items::new(alloc);
     let mut rest = bytes;
     for i in 0..count {
-        match plain_class_in(pool, end, rest) {
+        match index_in(pool, Target::PlainClass, end, rest) {
             Ok((item, more)) => {
                 items.push(item)?;
                 rest = more;
@@ -129,8 +129,8 @@ fn behind_pool_in(
     ensures { Gives (λ r. (r.0, r.1.now)) result (behind_pool_at minor major pool end bytes.now) }
 {
     let (flags, rest) = u2_in(end, bytes)?;
-    let (this_class, rest) = plain_class_in(&pool, end, rest)?;
-    let (super_class, rest) = super_in(&pool, this_class, end, rest)?;
+    let (this_class, rest) = index_in(&pool, Target::PlainClass, end, rest)?;
+    let (super_class, rest) = index_in(&pool, Target::SuperOf(this_class), end, rest)?;
     let (interfaces, rest) = interfaces_in(alloc, &pool, end, rest)?;
     let (fields, rest) = fields_in(alloc, &pool, end, rest)?;
     let (methods, rest) = methods_in(alloc, &pool, end, rest)?;

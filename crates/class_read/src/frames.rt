@@ -7,7 +7,7 @@ ghost use Rattle.class_read.specs.Faults.{Gives};
 
 use crate::class_fault::ClassFault;
 use crate::numbers::{place_of, u1_in, u2_in};
-use crate::targets::class_in;
+use crate::targets::{Target, index_in};
 use class_model::{FrameType, FrameTypes, StackFrame, StackFrames};
 use const_pool::JudgedPool;
 use sqlite_items::Items;
@@ -28,7 +28,7 @@ fn typed_in<'a>(
         return Ok((FrameType { tag, index: 0 }, bytes));
     }
     if tag == 7 {
-        let (index, rest) = class_in(pool, end, bytes)?;
+        let (index, rest) = index_in(pool, Target::Class, end, bytes)?;
         return Ok((FrameType { tag, index }, rest));
     }
     if tag == 8 {

@@ -11,7 +11,7 @@ use crate::attributes::attributes_in;
 use crate::class_fault::ClassFault;
 use crate::numbers::{place_of, u2_in};
 use crate::stands::Stand;
-use crate::targets::{field_name_in, method_name_in};
+use crate::targets::{Target, index_in};
 use class_model::{Member, Members, has_code, is_bare, is_static};
 use const_pool::{JudgedPool, MemberKeys, items_with_room};
 use std::alloc::{AllocError, Global};
@@ -121,7 +121,7 @@ fn field_in<'a, 'p>(
     ensures seen { IfOk result (λ r. HasSeen pool.now (before.old.list ++ r.0 ∷ []) before.new.keys) }
 {
     let (flags, rest) = u2_in(end, bytes)?;
-    let (name, rest) = field_name_in(pool, end, rest)?;
+    let (name, rest) = index_in(pool, Target::FieldName, end, rest)?;
     let (descriptor, rest) = field_type_in(pool, before, name, end, rest)?;
     let stand = Stand::Field(pool.as_pool().text_or_empty(descriptor));
     let (attributes, rest) = attributes_in(alloc, pool, stand, false, end, rest)?;
@@ -149,7 +149,7 @@ fn method_in<'a, 'p>(
     ensures seen { IfOk result (λ r. HasSeen pool.now (before.old.list ++ r.0 ∷ []) before.new.keys) }
 {
     let (flags, rest) = u2_in(end, bytes)?;
-    let (name, rest) = method_name_in(pool, end, rest)?;
+    let (name, rest) = index_in(pool, Target::MethodName, end, rest)?;
     let (descriptor, rest) = method_type_in(pool, before, flags, name, end, rest)?;
     let barred = is_bare(flags);
     let (attributes, rest) = attributes_in(alloc, pool, Stand::Method, barred, end, rest)?;
