@@ -16,11 +16,7 @@ use const_pool::{Holder, MemberKeys, MemberPart, Part, WriteFault, put_u2};
 use std::alloc::Global;
 
 /// Enters a member behind those before it, and tells whether one of them has its name and descriptor.
-fn enter<'a>(
-    seen: &mut MemberKeys<'a>,
-    pool: &'a Pool,
-    member: &Member,
-) -> Result<bool, WriteFault>
+fn enter<'a>(seen: &mut MemberKeys<'a>, pool: &'a Pool, member: &Member) -> Result<bool, WriteFault>
     ensures double { (before : List Member) → HasSeen pool.now before seen.old → IfOk result (λ double. list_any (are_same pool.now member.now) before ≡ double) }
     ensures seen { (before : List Member) → HasSeen pool.now before seen.old → OnOk result (HasSeen pool.now (before ++ member.now ∷ []) seen.new) }
     ensures memory { IsOkUnless result WriteFault.Memory }
