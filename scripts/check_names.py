@@ -28,6 +28,8 @@ def main():
         if not line.startswith("| `"):
             continue
         for file, name in NAME.findall(line.split("|")[1]):
+            if not file and (TOP / "crates" / name).is_dir():
+                continue
             if file and file not in by_file:
                 missing.append(f"{file}.{name}")
             elif name != "*" and name not in (by_file[file] if file else everywhere):
