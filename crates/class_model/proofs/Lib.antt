@@ -1,7 +1,6 @@
 pub mod UnitLemmas
 pub mod TextLemmas
 pub mod NameOfClass
-pub mod SeenMembers
 pub mod ProgramLemmas
 pub mod Dimensions
 pub mod Parameters

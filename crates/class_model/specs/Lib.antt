@@ -8,7 +8,6 @@ pub mod Spelling
 pub mod Annotations
 pub mod Attributes
 pub mod Shape
-pub mod SeenMembers
 pub mod Programs
 pub mod ProgramFaults
 pub mod TypeForms

@@ -12,7 +12,6 @@ mod constant_pool;
 mod descriptor_text;
 mod identifiers;
 mod index_targets;
-mod member_names;
 mod modified_utf8;
 mod name_text;
 mod program_list;
@@ -33,7 +32,6 @@ pub use descriptor_text::{
     TypeForm, field_type_in, is_field_descriptor, is_method_descriptor, is_return_descriptor,
 };
 pub use identifiers::{CallKind, CallRef, ClassId, MemberId, MemberRef, MethodId, SiteId};
-pub use member_names::MemberNames;
 pub use modified_utf8::{is_modified_utf8, unit_in};
 pub use name_text::{CopyFault, Name, NameFault};
 pub use program_list::{Program, ProgramFault};
