@@ -4,3 +4,4 @@ pub mod Flagged
 pub mod SiteLemmas
 pub mod TextsTold
 pub mod Uses
+pub mod WantsTold

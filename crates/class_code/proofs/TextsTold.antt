@@ -8,7 +8,7 @@ use Rattle.class_model.specs.Constants.{text_of, text_at}
 use Rattle.class_code.specs.declared.descriptors.Told.{Told}
 use Rattle.class_code.specs.Constants.{call_use}
 use Rattle.class_code.specs.Types.{Signature, kind_of, signature_of}
-use Rattle.class_code.specs.Descriptors.{call_kinds, told_by, use_of_call, descriptors_of}
+use Rattle.class_code.specs.Descriptors.{call_kinds, call_of, told_by, use_of_call, descriptors_of}
 
 abbrev said : Constant → Option Told
 said c = option_map told_by (text_of c)
@@ -47,3 +47,7 @@ pub call_told : (d : Option (List ℕ))
     → option_map use_of_call (option_and_then (λ (t : Told). t.call) (option_map told_by d)) ≡ option_map call_use (option_and_then signature_of d)
 call_told None = refl
 call_told (Some text) = use_kept (signature_of text)
+
+pub call_of_told : (d : Option (List ℕ)) → option_and_then (λ (t : Told). t.call) (option_map told_by d) ≡ option_and_then call_of d
+call_of_told None = refl
+call_of_told (Some text) = refl

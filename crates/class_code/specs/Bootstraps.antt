@@ -1,5 +1,5 @@
 -- Bootstrap methods that are known (JVMS 4.7.23; the methods are those of java.lang.invoke).
-use Rattle.std.specs.Prelude.{ℕ, Bool, false, ◌&&◌, ◌||◌, ◌==◌, List, [], ◌∷◌, codes, bytes_eq, Option, Some, None, option_and_then, slice_get, if◌then◌else◌}
+use Rattle.std.specs.Prelude.{ℕ, Bool, false, ◌&&◌, ◌||◌, ◌==◌, List, [], ◌∷◌, codes, bytes_eq, Option, Some, None, option_and_then, slice_get, unwrap_or, if◌then◌else◌}
 use Rattle.class_model.specs.declared.attribute_forms.Attribute.{Attribute, out-Attribute}
 use Rattle.class_model.specs.declared.attribute_forms.Attribute.TheOpen.{Attribute-F}
 use Rattle.class_model.specs.declared.attribute_forms.Bootstrap.{Bootstrap}
@@ -19,6 +19,9 @@ or_later _ later = later
 abbrev pub table_in : List Attribute → Option (List Bootstrap)
 table_in [] = None
 table_in (a ∷ attributes) = or_later (out-Attribute a) (table_in attributes)
+
+abbrev pub bootstraps_of : Class → List Bootstrap
+bootstraps_of class = unwrap_or (table_in class.attributes) []
 
 unfoldable pub bootstrap_at : Class → ℕ → Option Bootstrap
 bootstrap_at class n = option_and_then (λ entries. slice_get entries n) (table_in class.attributes)

@@ -13,3 +13,4 @@ pub mod Seen
 pub mod Sites
 pub mod Types
 pub mod Uses
+pub mod Wants

@@ -100,9 +100,12 @@ pub record Implementing : Type 0 where
 abbrev pub takes_receiver : ℕ → Bool
 takes_receiver kind = kind == 5 || kind == 7 || kind == 9
 
--- what the implementing method is given, the receiver first
+-- what a method that a handle of a kind invokes is given, the receiver first
+abbrev pub wanted_by : ℕ → List ValueKind → List ValueKind
+wanted_by kind takes = if takes_receiver kind then Reference ∷ takes else takes
+
 abbrev pub wanted : Implementing → List ValueKind
-wanted i = if takes_receiver i.kind then Reference ∷ i.method.takes else i.method.takes
+wanted i = wanted_by i.kind i.method.takes
 
 -- an int widens to a long, but no long narrows to an int
 abbrev pub narrows : ValueKind → ValueKind → Bool

@@ -3,7 +3,7 @@
 ghost use Rattle.std.specs.Prelude.{◌≡◌, ◌==◌, ◌&&◌, bytes_eq, codes, slice_get, option_copied, option_and_then};
 ghost use Rattle.class_model.specs.Constants.{text_at, class_at, constant_at, is_some_that};
 ghost use Rattle.class_code.specs.Constants.{descriptor_at, name_at};
-ghost use Rattle.class_code.specs.Bootstraps.{Method, table_in, bootstrap_at, metafactory, concatenating, names_method, invokes, is_bootstrap_by, known_arguments};
+ghost use Rattle.class_code.specs.Bootstraps.{Method, table_in, bootstraps_of, bootstrap_at, metafactory, concatenating, names_method, invokes, is_bootstrap_by, arguments_if_known, known_arguments};
 
 use crate::constants::{descriptor_at, name_at};
 use class_model::{Attribute, Bootstrap, Bootstraps, Class, Constant, Pool};
@@ -17,6 +17,16 @@ fn table_in(attributes: &[Attribute]) -> Option<&Bootstraps>
         }
     }
     None
+}
+
+/// The entries of the class's table of bootstrap methods; none where it has no table.
+pub fn bootstraps_of(class: &Class) -> &[Bootstrap]
+    ensures { result.now ≡ bootstraps_of class.now }
+{
+    match table_in(class.attributes.as_slice()) {
+        Some(entries) => entries.as_slice(),
+        None => &[],
+    }
 }
 
 /// The bootstrap method of a number of the class's table, if there is one.
@@ -105,19 +115,24 @@ pub(crate) fn is_concatenating(pool: &Pool, bootstrap: &Bootstrap) -> bool
     )
 }
 
+/// The static arguments of a bootstrap method, where it is one of the two.
+pub fn arguments_if_known<'a>(pool: &Pool, bootstrap: &'a Bootstrap) -> &'a [u16]
+    ensures { result.now ≡ arguments_if_known pool.now (Some bootstrap.now) }
+{
+    if is_metafactory(pool, bootstrap) || is_concatenating(pool, bootstrap) {
+        bootstrap.arguments.as_slice()
+    } else {
+        &[]
+    }
+}
+
 /// The static arguments of a bootstrap method of the class's table, where the method is one of the two.
 #[tactic(auto, unfolding(crate::specs::Bootstraps::known_arguments))]
 pub fn known_arguments(class: &Class, number: u16) -> &[u16]
     ensures { result.now ≡ known_arguments class.now number }
 {
     match bootstrap_at(class, number) {
-        Some(bootstrap) => {
-            if is_metafactory(&class.pool, bootstrap) || is_concatenating(&class.pool, bootstrap) {
-                bootstrap.arguments.as_slice()
-            } else {
-                &[]
-            }
-        }
+        Some(bootstrap) => arguments_if_known(&class.pool, bootstrap),
         None => &[],
     }
 }

@@ -7,6 +7,7 @@ ghost use Rattle.class_code.specs.Types.{signature_of};
 ghost use Rattle.class_code.specs.Descriptors.{call_kinds, told_by, descriptors_of};
 
 use crate::constants::may_have;
+use crate::lambdas::{is_object, is_string};
 use crate::types::{has_float, kind_of, read_kinds};
 use class_model::{Constant, Pool};
 use jvm_tables::{ConstantUse, ValueKind};
@@ -19,6 +20,10 @@ pub struct CallKinds {
     pub takes: Items<ValueKind>,
     /// `None` for void, a float and a double.
     pub gives: Option<ValueKind>,
+    /// Whether the result is of a class, and not of an array.
+    pub gives_object: bool,
+    /// Whether the result is a String.
+    pub gives_string: bool,
 }
 
 /// What a text says as a descriptor.
@@ -42,6 +47,8 @@ fn call_kinds(alloc: Global, descriptor: &[u8]) -> Result<Option<CallKinds>, All
         Some(returned) => Ok(Some(CallKinds {
             takes: Items::from_vec(takes),
             gives: returned.kind(),
+            gives_object: is_object(returned),
+            gives_string: is_string(returned),
         })),
         None => Ok(None),
     }

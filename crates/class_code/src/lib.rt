@@ -17,8 +17,9 @@ mod row;
 mod site;
 mod sites;
 mod types;
+mod wants;
 
-pub use bootstraps::{bootstrap_at, known_arguments};
+pub use bootstraps::{arguments_if_known, bootstrap_at, bootstraps_of, known_arguments};
 pub use code::{CodeView, code_of, stack_map};
 pub use constants::{
     Use, constant_of, descriptor_at, dimensions_of, name_at, number_of, told_by_row,
@@ -33,5 +34,6 @@ pub use named::{HandleView, MemberView, NamedView, handle_at, method_type_at, na
 pub use operand::local_of;
 pub use row::{CatchView, OperandView, catch_of, operand_of};
 pub use site::{ConcatenationView, LambdaView, SiteView, written_site};
-pub use sites::{SiteKinds, has_unknown_site, unknown_sites};
+pub use sites::{SiteKinds, has_unknown_site};
 pub use types::{Returned, has_float, kind, kind_of, read_kinds, returned_of};
+pub use wants::unknown_sites;

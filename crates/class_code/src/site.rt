@@ -83,7 +83,7 @@ fn lambda_by<'a>(
     }
 }
 
-fn recipe_at(pool: &Pool, number: u16) -> Option<&[u8]>
+pub(crate) fn recipe_at(pool: &Pool, number: u16) -> Option<&[u8]>
     ensures { option_copied result ≡ option_and_then (recipe_of pool.now) (constant_at pool.now number) }
 {
     match pool.constant(number) {

@@ -1,14 +1,12 @@
 //! Whether the parts of a call site go together (JVMS 4.7.23, 6.5).
 
-ghost use Rattle.std.specs.Prelude.{◌≡◌, ◌==◌, ◌&&◌, ◌++◌, ◌∷◌, not, count_by, IfOk, OnOk, option_map, if◌then◌else◌};
+ghost use Rattle.std.specs.Prelude.{◌≡◌, ◌==◌, ◌&&◌, ◌++◌, count_by, IfOk, OnOk, option_map};
 ghost use Rattle.std.specs.List.{list_all};
-ghost use Rattle.jvm_tables.specs.declared.instruction.ValueKind.TheVariants.{Reference};
 ghost use Rattle.class_model.specs.Constants.{constant_at, is_some_that};
 ghost use Rattle.class_code.specs.Types.{read, signature_of};
 ghost use Rattle.class_code.specs.Parts.{lambda_site, concatenation_site, site};
-ghost use Rattle.class_code.specs.Sites.{takes_receiver, implementing_by, is_sound, lambda_kinds, is_joined, is_recipe, is_joining, is_sound_site, site_at, unknown_by, has_unknown_site};
+ghost use Rattle.class_code.specs.Sites.{wanted_by, implementing_by, is_sound, lambda_kinds, is_joined, is_recipe, is_joining, is_sound_site, site_at, has_unknown_site};
 ghost use Rattle.class_code.specs.Flags.{if_site, unknown_sites};
-ghost use Rattle.jvm_tables.specs.declared.instruction.ConstantUse.TheVariants.{CallSite};
 
 use crate::flags::{Flags, flag_of};
 use crate::lambdas::{
@@ -18,7 +16,6 @@ use crate::site::{ConcatenationView, LambdaView, SiteView, written_site};
 use crate::types::{Returned, read_kinds};
 use class_model::{Class, Constant, Pool};
 use jvm_tables::{ConstantUse, Instr, OpRow, ValueKind};
-use sqlite_items::Items;
 use std::alloc::{AllocError, Global};
 
 /// The kinds that the parts of a call site take. It is used again for one site after another.
@@ -42,7 +39,7 @@ fn is_joined(pool: &Pool, number: u16) -> bool
     )
 }
 
-fn are_joined(pool: &Pool, numbers: &[u16]) -> bool
+pub(crate) fn are_joined(pool: &Pool, numbers: &[u16]) -> bool
     ensures { result ≡ list_all (λ n. is_some_that is_joined (constant_at pool.now n)) numbers.now }
 {
     for number in numbers {
@@ -53,7 +50,7 @@ fn are_joined(pool: &Pool, numbers: &[u16]) -> bool
     true
 }
 
-fn count_of(byte: u8, text: &[u8]) -> usize
+pub(crate) fn count_of(byte: u8, text: &[u8]) -> usize
     ensures { result ≡ count_by (λ b. b == byte) text.now }
 {
     text.iter().filter(|b| **b == byte).count()
@@ -81,7 +78,7 @@ impl SiteKinds {
 }
 
 /// The captured values and the parameters, and what the implementing method wants of them.
-fn put_given(
+pub(crate) fn put_given(
     site: &[ValueKind],
     instantiated: &[ValueKind],
     given: &mut Vec<ValueKind>,
@@ -94,8 +91,12 @@ fn put_given(
     Ok(())
 }
 
-fn put_wanted(kind: u8, method: &[ValueKind], wanted: &mut Vec<ValueKind>) -> Result<(), AllocError>
-    ensures { OnOk result (wanted.new.items ≡ (if takes_receiver kind then Reference ∷ method.now else method.now)) }
+pub(crate) fn put_wanted(
+    kind: u8,
+    method: &[ValueKind],
+    wanted: &mut Vec<ValueKind>,
+) -> Result<(), AllocError>
+    ensures { OnOk result (wanted.new.items ≡ wanted_by kind method.now) }
 {
     wanted.clear();
     if takes_receiver(kind) {
@@ -203,35 +204,6 @@ impl SiteKinds {
             Ok(None)
         }
     }
-
-    /// Whether a constant is a call site that has no site.
-    fn is_unknown(&mut self, class: &Class, constant: &Constant) -> Result<bool, AllocError>
-        ensures { IfOk result (λ told. told ≡ unknown_by CallSite class.now constant.now) }
-    {
-        match constant {
-            Constant::InvokeDynamic {
-                bootstrap,
-                name_type,
-            } => match self.site_at(class, *bootstrap, *name_type)? {
-                Some(_) => Ok(false),
-                None => Ok(true),
-            },
-            _ => Ok(false),
-        }
-    }
-}
-
-/// Of each constant of a class, in order, whether it is a call site that has no site.
-#[tactic(auto, unfolding(crate::specs::Flags::unknown_sites))]
-pub fn unknown_sites(alloc: Global, class: &Class) -> Result<Flags, AllocError>
-    ensures { IfOk result (λ found. found ≡ unknown_sites class.now) }
-{
-    let mut kinds = SiteKinds::new(alloc);
-    let mut found = Items::new(alloc);
-    for constant in class.pool.constants.as_slice() {
-        found.push(kinds.is_unknown(class, constant)?)?;
-    }
-    Ok(found)
 }
 
 fn if_site(named: ConstantUse, flag: bool) -> bool

@@ -7,14 +7,14 @@ ghost use Rattle.class_code.specs.Types.{has_float};
 ghost use Rattle.class_code.specs.Constants.{descriptor_at, descriptor_named};
 ghost use Rattle.class_code.specs.Descriptors.{descriptors_of};
 ghost use Rattle.class_verify.specs.Floats.{is_float_array, reference_has_float, is_float_load, is_float_constant, class_has_float, has_float_arguments, constant_has_float, makes_floats, uses_float};
-ghost use Rattle.class_verify.specs.ConstantTables.{AreTables};
+ghost use Rattle.class_verify.specs.ConstantTables.{has_float_entry, AreTables};
 
 use crate::constant_tables::ConstantTables;
 use class_code::{
-    Descriptors, Told, constant_of, dimensions_of, flag_of, known_arguments, number_of, told_at,
+    Descriptors, Told, arguments_if_known, constant_of, dimensions_of, flag_of, number_of, told_at,
     told_of_named, told_of_type,
 };
-use class_model::{Class, Constant, Pool};
+use class_model::{Bootstrap, Class, Constant, Pool};
 use jvm_tables::{ConstantUse, Instr, OpRow, Operation};
 
 fn says_float(told: Option<&Told>) -> bool
@@ -111,21 +111,12 @@ fn any_loads_float(descriptors: &Descriptors, pool: &Pool, numbers: &[u16]) -> b
     false
 }
 
-pub(crate) fn has_float_arguments(
-    descriptors: &Descriptors,
-    class: &Class,
-    constant: &Constant,
-) -> bool
-    requires { descriptors.now ≡ descriptors_of class.now.pool }
-    ensures { result ≡ has_float_arguments class.now constant.now }
+/// Whether a bootstrap method that is known has a float among its static arguments.
+pub(crate) fn has_float_entry(descriptors: &Descriptors, pool: &Pool, bootstrap: &Bootstrap) -> bool
+    requires { descriptors.now ≡ descriptors_of pool.now }
+    ensures { result ≡ has_float_entry pool.now bootstrap.now }
 {
-    match constant {
-        Constant::InvokeDynamic { bootstrap, .. } => {
-            let arguments = known_arguments(class, *bootstrap);
-            any_loads_float(descriptors, &class.pool, arguments)
-        }
-        _ => false,
-    }
+    any_loads_float(descriptors, pool, arguments_if_known(pool, bootstrap))
 }
 
 #[tactic(auto, using(crate::proofs::FloatTables::float_told))]
