@@ -69,8 +69,12 @@ swept_on body s t pc m going ranges begun =
     (pruned body.table s.ranges.items s.begun pc s.going.items m)))
 
 -- whether all that go on accept the locals
-pub judged : (body : Body) (s : Sweep) (pc : ℕ) (locals : List Kind) (b : Bool) → Swept body s pc
+pub judged : (body : Body) (s : Sweep) (pc : ℕ) (locals : List Kind) (b : Bool) → Swept body s pc → s.known ≡ locals
     → b ≡ list_all (is_kept body.code body.frames pc locals) s.going.items
     → MatchBool b (IsSettled body s pc locals) (list_all (catches body.code body.frames pc locals) body.table ≡ false)
-judged body s pc locals true m e = record { swept = m; kept = sym e }
-judged body s pc locals false m e = going_refuses body s pc locals m (sym e)
+judged body s pc locals true m k e = record {
+  swept = m;
+  known = ap (λ ks. list_all (is_kept body.code body.frames pc ks) s.going.items) k ∙ sym e;
+  kept = sym e;
+}
+judged body s pc locals false m k e = going_refuses body s pc locals m (sym e)

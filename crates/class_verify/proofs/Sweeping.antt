@@ -1,9 +1,9 @@
 -- The ranges of an exception table, met one after another.
 use Rattle.std.proofs.Common.{◌≡◌, ℕ, suc, ◌+◌, ◌<◌, ◌≤◌, ◌⊎◌, inl, inr, Bool, true, false, not, ◌&&◌, ◌||◌, cond, List, [], ◌∷◌, ◌++◌, length, get_or, Option, Some, None, refl, sym, ap, ◌∙◌, subst, arith}
-use Rattle.std.specs.Prelude.{nat_lt, nat_le, is_none, option_and_then, slice_get, Contains, IsPermutation}
+use Rattle.std.specs.Prelude.{◌==◌, nat_lt, nat_le, is_none, option_and_then, slice_get, Contains, IsPermutation}
 use Rattle.std.specs.Bool.{OnTrue}
 use Rattle.std.specs.List.{list_all}
-use Rattle.std.proofs.lemmas.Bool.{cases_lt, cases_Bool, lt-ltb, le-ltb, le-leb, lt-leb, leb-true}
+use Rattle.std.proofs.lemmas.Bool.{cases_lt, cases_Bool, eqb-true, lt-ltb, le-ltb, le-leb, lt-leb, leb-true}
 use Rattle.std.proofs.lemmas.List.Elements.{Contains-push, Contains-push_cases, Contains-append_left}
 use Rattle.std.proofs.lemmas.List.Folds.{list_all-append, list_all_at}
 use Rattle.std.proofs.lemmas.List.Sorted.{Contains-permutation, IsPermutation-sym}
@@ -19,12 +19,15 @@ use Rattle.class_verify.specs.declared.kinds.Kind.{Kind}
 use Rattle.class_verify.specs.declared.sweep.Sweep.{Sweep}
 use Rattle.class_verify.specs.Bodies.{Body}
 use Rattle.class_verify.specs.Frames.{frame_at}
-use Rattle.class_verify.specs.Sweeps.{is_kept, begins_by, IsSwept, Swept, IsMet, IsSettled, IsFresh}
+use Rattle.class_verify.specs.Sweeps.{is_kept, begins_by, IsSwept, Swept, Kept, IsMet, IsSettled, IsFresh}
 use Rattle.class_verify.specs.Effects.{left, limited, locals_after, is_read, with_store, stack_after}
 use Rattle.class_code.specs.Control.{covers}
 use Rattle.class_code.specs.Operands.{local_of}
-use Rattle.class_verify.specs.Targets.{is_caught, catches}
+use Rattle.class_verify.specs.Targets.{is_caught, is_thrown, catches_in, catches}
+use Rattle.class_verify.specs.Kinds.{all_fit}
+use Rattle.jvm_tables.proofs.Rows.{both}
 use Rattle.class_verify.proofs.Fitting.{and_false}
+use Rattle.class_verify.proofs.Ordering.{also, all_through}
 
 abbrev start : Handler → ℕ
 start h = h.start
@@ -101,8 +104,9 @@ kept_ended code frames pc locals h e = ap (λ b. not b || is_caught locals (fram
 
 pub admitted : (body : Body) (s t : Sweep) (pc : ℕ) (locals : List Kind) (h : Handler) → IsSettled body s pc locals
     → begins_by pc (slice_get s.ranges.items s.begun) ≡ Some h → is_caught locals (frame_at body.code body.frames h.handler) ≡ true
-    → t.ranges ≡ s.ranges → t.begun ≡ s.begun + 1 → t.going.items ≡ s.going.items ++ h ∷ [] → IsSettled body t pc locals
-admitted body s t pc locals h m next caught ranges begun going =
+    → t.ranges ≡ s.ranges → t.begun ≡ s.begun + 1 → t.going.items ≡ s.going.items ++ h ∷ []
+    → Kept body s pc t.known → is_caught t.known (frame_at body.code body.frames h.handler) ≡ true → IsSettled body t pc locals
+admitted body s t pc locals h m next caught ranges begun going known too =
     let there : (slice_get s.ranges.items s.begun ≡ Some h) × (h.start ≤ pc) = next_is s.ranges.items s.begun pc h next in
     let more : List Handler = s.going.items ++ h ∷ [] in
     let swept : IsSwept body.table s.ranges.items (s.begun + 1) more pc =
@@ -112,19 +116,22 @@ admitted body s t pc locals h m next caught ranges begun going =
       | inl before ↦ m.swept.from x before
       | inr same ↦ subst (λ (y : Handler). Contains body.table y × (y.start ≤ pc)) same (in_table body.table s.ranges.items s.begun h m.swept.same there.0, there.1)
     ]) in
-    let test : Handler → Bool = is_kept body.code body.frames pc locals in
+    let all : (ks : List Kind) → Kept body s pc ks → is_caught ks (frame_at body.code body.frames h.handler) ≡ true → Kept body t pc ks =
+    λ ks before here. (let test : Handler → Bool = is_kept body.code body.frames pc ks in
+    ap (list_all test) going ∙ list_all-append test s.going.items (h ∷ []) ∙ ap (λ b. b && (test h && true)) before
+    ∙ ap (λ b. b && true) (kept_one (not (nat_lt pc h.end)) _ here)) in
     record {
       swept = subst (λ g. IsSwept body.table t.ranges.items t.begun g pc) (sym going)
           (subst (λ n. IsSwept body.table t.ranges.items n more pc) (sym begun)
           (subst (λ r. IsSwept body.table r.items (s.begun + 1) more pc) (sym ranges) swept));
-      kept = ap (list_all test) going ∙ list_all-append test s.going.items (h ∷ []) ∙ ap (λ b. b && (test h && true)) m.kept
-          ∙ ap (λ b. b && true) (kept_one (not (nat_lt pc h.end)) _ caught);
+      known = all t.known known too;
+      kept = all locals m.kept caught;
     }
 
 pub passed_over : (body : Body) (s t : Sweep) (pc : ℕ) (locals : List Kind) (h : Handler) → IsSettled body s pc locals
     → begins_by pc (slice_get s.ranges.items s.begun) ≡ Some h → h.end ≤ pc
-    → t.ranges ≡ s.ranges → t.begun ≡ s.begun + 1 → t.going ≡ s.going → IsSettled body t pc locals
-passed_over body s t pc locals h m next ended ranges begun going =
+    → t.ranges ≡ s.ranges → t.begun ≡ s.begun + 1 → t.going ≡ s.going → t.known ≡ s.known → IsSettled body t pc locals
+passed_over body s t pc locals h m next ended ranges begun going known =
     let there : (slice_get s.ranges.items s.begun ≡ Some h) × (h.start ≤ pc) = next_is s.ranges.items s.begun pc h next in
     let swept : IsSwept body.table s.ranges.items (s.begun + 1) s.going.items pc =
     one_more body.table s.ranges.items s.begun s.going.items s.going.items pc h m.swept there.0 (λ x c. c) (inl ended) m.swept.from in
@@ -132,6 +139,8 @@ passed_over body s t pc locals h m next ended ranges begun going =
       swept = subst (λ g. IsSwept body.table t.ranges.items t.begun g.items pc) (sym going)
           (subst (λ n. IsSwept body.table t.ranges.items n s.going.items pc) (sym begun)
           (subst (λ r. IsSwept body.table r.items (s.begun + 1) s.going.items pc) (sym ranges) swept));
+      known = ap (λ g. list_all (is_kept body.code body.frames pc t.known) g.items) going
+          ∙ ap (λ ks. list_all (is_kept body.code body.frames pc ks) s.going.items) known ∙ m.known;
       kept = ap (λ g. list_all (is_kept body.code body.frames pc locals) g.items) going ∙ m.kept;
     }
 
@@ -212,7 +221,43 @@ all_caught body s pc locals m none =
     (is_going body.table s.ranges.items s.begun s.going.items pc h m.swept none c began on)))
 
 pub settled_still : (body : Body) (s : Sweep) (pc : ℕ) (locals : List Kind) → IsMet body s pc locals → s.is_settled ≡ true → IsSettled body s pc locals
-settled_still body s pc locals m e = record { swept = m.swept; kept = m.kept e }
+settled_still body s pc locals m e = record { swept = m.swept; known = m.known; kept = m.kept e }
+
+none_fails : {X : Type 0} (p : X → Bool) (xs : List X) → (length xs == 0) ≡ true → list_all p xs ≡ true
+none_fails p [] e = refl
+none_fails p (x ∷ xs) e = absurd (omega (arith, eqb-true (length (x ∷ xs)) 0 e))
+
+pub settled_nothing : (body : Body) (s : Sweep) (pc : ℕ) (locals : List Kind) → IsMet body s pc locals → (length s.going.items == 0) ≡ true → IsSettled body s pc locals
+settled_nothing body s pc locals m e =
+    record { swept = m.swept; known = m.known; kept = none_fails (is_kept body.code body.frames pc locals) s.going.items e }
+
+-- Locals that fit others are accepted where those are.
+caught_through : (locals known : List Kind) (w : Option Written) → all_fit locals known ≡ true → is_caught known w ≡ true → is_caught locals w ≡ true
+caught_through locals known None f e = e
+caught_through locals known (Some w) f e = by_shape w.shape e
+  where
+    by_shape : (o : Option Shape) → catches_in known o ≡ true → catches_in locals o ≡ true
+    by_shape None e = e
+    by_shape (Some wanted) e =
+        let p : (is_thrown wanted.stack ≡ true) × (all_fit known wanted.locals ≡ true) = both _ _ e in
+        also (is_thrown wanted.stack) (all_fit locals wanted.locals) p.0 (all_through locals known wanted.locals f p.1)
+
+or_through : (b : Bool) (locals known : List Kind) (w : Option Written) → all_fit locals known ≡ true → (b || is_caught known w) ≡ true → (b || is_caught locals w) ≡ true
+or_through true locals known w f e = refl
+or_through false locals known w f e = caught_through locals known w f e
+
+kept_through : (body : Body) (going : List Handler) (pc : ℕ) (locals known : List Kind) → all_fit locals known ≡ true
+    → list_all (is_kept body.code body.frames pc known) going ≡ true → list_all (is_kept body.code body.frames pc locals) going ≡ true
+kept_through body going pc locals known f k =
+    list_all_from (is_kept body.code body.frames pc locals) going
+    (λ h c. or_through (not (nat_lt pc h.end)) locals known (frame_at body.code body.frames h.handler) f
+    (list_all_each (is_kept body.code body.frames pc known) going h k c))
+
+pub looked : (body : Body) (s : Sweep) (pc : ℕ) (locals : List Kind) → Swept body s pc → all_fit locals s.known ≡ true → Kept body s pc s.known → IsSettled body s pc locals
+looked body s pc locals m f k = record { swept = m; known = k; kept = kept_through body s.going.items pc locals s.known f k }
+
+pub settled_by_known : (body : Body) (s : Sweep) (pc : ℕ) (locals : List Kind) → IsMet body s pc locals → all_fit locals s.known ≡ true → IsSettled body s pc locals
+settled_by_known body s pc locals m f = looked body s pc locals m.swept f m.known
 
 swept_later : (table ranges : List Handler) (begun : ℕ) (going : List Handler) (pc later : ℕ) → pc ≤ later
     → IsSwept table ranges begun going pc → IsSwept table ranges begun going later
@@ -240,16 +285,19 @@ kept_later code frames pc later locals h le k =
 pub met_later : (body : Body) (s : Sweep) (pc later : ℕ) (locals : List Kind) → pc ≤ later → IsMet body s pc locals → IsMet body s later locals
 met_later body s pc later locals le m = record {
   swept = swept_later body.table s.ranges.items s.begun s.going.items pc later le m.swept;
-  kept = λ e. list_all_from (is_kept body.code body.frames later locals) s.going.items
-      (λ h c. kept_later body.code body.frames pc later locals h le
-      (list_all_each (is_kept body.code body.frames pc locals) s.going.items h (m.kept e) c));
+  known = all s.known m.known;
+  kept = λ e. all locals (m.kept e);
 }
+  where
+    all : (ks : List Kind) → Kept body s pc ks → Kept body s later ks
+    all ks k = list_all_from (is_kept body.code body.frames later ks) s.going.items
+        (λ h c. kept_later body.code body.frames pc later ks h le (list_all_each (is_kept body.code body.frames pc ks) s.going.items h k c))
 
 -- Nothing is said of the locals any more.
 pub unsettled : (body : Body) (s t : Sweep) (pc : ℕ) (locals others : List Kind) → IsMet body s pc locals → t ≡ record s { is_settled = false } → IsMet body t pc others
 unsettled body s t pc locals others m e =
     let P : Sweep → Type 0 = λ x. IsMet body x pc others in
-    subst P (sym e) (record { swept = m.swept; kept = λ f. (let clash : false ≡ true = f in cc) })
+    subst P (sym e) (record { swept = m.swept; known = m.known; kept = λ f. (let clash : false ≡ true = f in cc) })
 
 -- An instruction that writes no local leaves the locals as they are.
 stored_none : (writes : Option ValueKind) (at : ℕ) (locals others : List Kind) → is_none writes ≡ true → with_store writes at locals ≡ Some others → others ≡ locals
@@ -285,12 +333,13 @@ left_locals class most row instr shape after e none =
     (read_first (is_read row.reads (local_of row instr) shape.locals) (with_store row.writes (local_of row instr) shape.locals) after.locals
     (left_after most (locals_after row instr shape.locals) (stack_after class row instr shape.stack) after e))
 
-pub follows : (body : Body) (s t : Sweep) (pc : ℕ) (class : Class) (most : ℕ) (row : OpRow) (instr : Instr) (shape after : Shape) → IsSettled body s pc shape.locals
-    → left class most row instr shape ≡ Some after → t ≡ record s { is_settled = is_none row.writes } → IsMet body t pc after.locals
-follows body s t pc class most row instr shape after m e u =
+pub follows : (body : Body) (s t : Sweep) (pc place : ℕ) (class : Class) (most : ℕ) (row : OpRow) (instr : Instr) (shape after : Shape) → IsSettled body s pc shape.locals
+    → left class most row instr shape ≡ Some after → t ≡ record s { is_settled = is_none row.writes; written = place } → IsMet body t pc after.locals
+follows body s t pc place class most row instr shape after m e u =
     let P : Sweep → Type 0 = λ x. IsMet body x pc after.locals in
     subst P (sym u) (record {
       swept = m.swept;
+      known = m.known;
       kept = λ f. subst (λ ls. list_all (is_kept body.code body.frames pc ls) s.going.items ≡ true) (sym (left_locals class most row instr shape after e f)) m.kept;
     })
 
@@ -304,6 +353,7 @@ fresh_met body s pc locals f = record {
     met = λ k d h. absurd (omega (arith, f.begun));
     from = λ h c. absurd (omega (arith, c.1, ap length f.going));
   };
+  known = ap (list_all (is_kept body.code body.frames pc s.known)) f.going;
   kept = λ e. ap (list_all (is_kept body.code body.frames pc locals)) f.going;
 }
 

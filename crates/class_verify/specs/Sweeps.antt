@@ -38,14 +38,16 @@ Swept body sweep pc = IsSwept body.table sweep.ranges.items sweep.begun sweep.go
 abbrev pub Kept : Body → Sweep → ℕ → List Kind → Type 0
 Kept body sweep pc locals = list_all (is_kept body.code body.frames pc locals) sweep.going.items ≡ true
 
--- what is known of them before an instruction: that they accept the locals, unless these were changed
+-- what is known of them before an instruction: that they accept the known locals, and those there unless changed
 pub record IsMet (body : Body) (sweep : Sweep) (pc : ℕ) (locals : List Kind) : Type 0 where
   pub swept : Swept body sweep pc
+  pub known : Kept body sweep pc sweep.known
   pub kept : sweep.is_settled ≡ true → Kept body sweep pc locals
 
 -- what is known of them once all that began are looked at
 pub record IsSettled (body : Body) (sweep : Sweep) (pc : ℕ) (locals : List Kind) : Type 0 where
   pub swept : Swept body sweep pc
+  pub known : Kept body sweep pc sweep.known
   pub kept : Kept body sweep pc locals
 
 -- none began yet

@@ -148,6 +148,27 @@ impl Locals {
         self.slots.kept_fit(&wanted.slots)
     }
 
+    /// Makes a slot Top where others have another kind.
+    fn weaken(&mut self, place: usize, others: &Locals) -> Result<(), AllocError> {
+        if place >= self.slots.len() {
+            return Ok(());
+        }
+        let Some(kind) = self.slots.get(place) else {
+            return Ok(());
+        };
+        if is_at(&others.slots, place, kind) {
+            return Ok(());
+        }
+        self.slots.set(place, Kind::Top)
+    }
+
+    /// Makes of the slots that a write to a local may have changed those Top where others have another kind.
+    pub(crate) fn weaken_at(&mut self, place: usize, others: &Locals) -> Result<(), AllocError> {
+        self.weaken(place.saturating_sub(1), others)?;
+        self.weaken(place, others)?;
+        self.weaken(place.saturating_add(1), others)
+    }
+
     /// Whether a value of a kind begins at a local.
     #[tactic(auto, using(crate::proofs::Padding::is_int_padded, crate::proofs::Padding::is_long_padded, crate::proofs::Padding::is_reference_padded))]
     pub(crate) fn holds(&self, place: usize, kind: ValueKind) -> bool

@@ -1,12 +1,14 @@
 //! The ranges of an exception table, met in the order of their starts as a walk goes on. A range is looked at where it
 //! begins, and again where a local was changed, and not at each instruction.
 
-ghost use Rattle.std.specs.Prelude.{◌≡◌, ◌+◌, Some, false, IfOk, MatchBool, is_none, slice_get};
+ghost use Rattle.std.specs.Prelude.{◌≡◌, ◌+◌, Bool, List, Some, true, false, IfOk, OnOk, MatchBool, is_none, slice_get};
 ghost use Rattle.std.specs.Bool.{OnTrue};
 ghost use Rattle.std.specs.List.{filter, list_all};
+ghost use Rattle.class_verify.specs.declared.kinds.Kind.{Kind};
+ghost use Rattle.class_verify.specs.Frames.{frame_at};
 ghost use Rattle.class_verify.specs.Ready.{IsReady, plain};
-ghost use Rattle.class_verify.specs.Sweeps.{goes_on, begins_by, is_kept, IsMet, IsSettled, IsFresh};
-ghost use Rattle.class_verify.specs.Targets.{catches};
+ghost use Rattle.class_verify.specs.Sweeps.{goes_on, begins_by, is_kept, Swept, IsMet, IsSettled, IsFresh};
+ghost use Rattle.class_verify.specs.Targets.{is_caught, catches};
 
 use crate::body::Body;
 use crate::locals::Locals;
@@ -25,6 +27,29 @@ pub(crate) struct Sweep {
     pub going: Vec<Handler>,
     /// Whether the locals are those that the handlers of all that are going on accept.
     pub is_settled: bool,
+    /// Locals that the handlers of all that are going on accept, as all locals do that fit them.
+    pub known: Locals,
+    /// The local that was written last.
+    pub written: usize,
+}
+
+/// Keeps known locals that a further handler accepts too, and makes them those that it accepts otherwise.
+fn keep_known(
+    body: &Body<'_>,
+    handler: usize,
+    locals: &Locals,
+    known: &mut Locals,
+) -> Result<(), AllocError>
+    requires ready { IsReady body.now }
+    requires caught { is_caught locals.now (frame_at body.now.code.now body.now.frames handler) ≡ true }
+    ensures caught { OnOk result (is_caught known.new (frame_at body.now.code.now body.now.frames handler) ≡ true) }
+    ensures either { OnOk result ((p : List Kind → Bool) → p known.old ≡ true → p locals.now ≡ true → p known.new ≡ true) }
+{
+    if body.is_caught(known, handler) {
+        return Ok(());
+    }
+    known.copy_from(locals)?;
+    Ok(())
 }
 
 impl Sweep {
@@ -38,6 +63,8 @@ impl Sweep {
             begun: 0,
             going: Vec::new(alloc),
             is_settled: true,
+            known: Locals::new(alloc),
+            written: 0,
         })
     }
 
@@ -76,20 +103,40 @@ impl Sweep {
         self.going.retain(|range| pc < usize::from(range.end));
     }
 
+    /// Looks at all that are going on, whether their handlers accept the locals. Those that ended are looked at no more.
+    fn look(&mut self, body: &Body<'_>, pc: usize, locals: &Locals) -> Result<bool, AllocError>
+        requires ready { IsReady body.now }
+        requires swept { Swept (plain body.now) self.old pc }
+        ensures { IfOk result (λ is_kept. MatchBool is_kept (IsSettled (plain body.now) self.new pc locals.now)
+            (list_all (catches body.now.code.now body.now.frames pc locals.now) body.now.table.now ≡ false)) }
+    {
+        self.prune(pc);
+        self.known.weaken_at(self.written, locals)?;
+        if locals.fits(&self.known) && self.all_keep(body, pc, &self.known) {
+            return Ok(true);
+        }
+        self.known.copy_from(locals)?;
+        Ok(self.all_keep(body, pc, locals))
+    }
+
     /// Whether the handlers of all that are going on accept the locals, which were changed unless they are settled.
-    /// Those that ended are looked at no more.
-    #[tactic(auto, using(crate::proofs::Sweeping::settled_still))]
-    fn settle(&mut self, body: &Body<'_>, pc: usize, locals: &Locals) -> bool
+    #[tactic(auto, using(crate::proofs::Sweeping::settled_still, crate::proofs::Sweeping::settled_nothing))]
+    fn settle(&mut self, body: &Body<'_>, pc: usize, locals: &Locals) -> Result<bool, AllocError>
         requires ready { IsReady body.now }
         requires met { IsMet (plain body.now) self.old pc locals.now }
-        ensures { MatchBool result (IsSettled (plain body.now) self.new pc locals.now)
-            (list_all (catches body.now.code.now body.now.frames pc locals.now) body.now.table.now ≡ false) }
+        ensures { IfOk result (λ is_kept. MatchBool is_kept (IsSettled (plain body.now) self.new pc locals.now)
+            (list_all (catches body.now.code.now body.now.frames pc locals.now) body.now.table.now ≡ false)) }
     {
         if self.is_settled {
-            return true;
+            return Ok(true);
         }
-        self.prune(pc);
-        self.all_keep(body, pc, locals)
+        if self.going.as_slice().is_empty() {
+            return Ok(true);
+        }
+        if locals.fits(&self.known) {
+            return Ok(true);
+        }
+        self.look(body, pc, locals)
     }
 
     /// Goes on to a range that begins, if its handler accepts the locals.
@@ -116,6 +163,7 @@ impl Sweep {
         if !body.is_caught(locals, usize::from(range.handler)) {
             return Ok(false);
         }
+        keep_known(body, usize::from(range.handler), locals, &mut self.known)?;
         self.going.push(range)?;
         Ok(true)
     }
@@ -147,16 +195,17 @@ impl Sweep {
         ensures caught { IfOk result (λ is_caught. is_caught ≡ list_all (catches body.now.code.now body.now.frames pc locals.now) body.now.table.now) }
         ensures met { IfOk result (λ is_caught. OnTrue is_caught (IsSettled (plain body.now) self.new pc locals.now)) }
     {
-        if !self.settle(body, pc, locals) {
+        if !self.settle(body, pc, locals)? {
             return Ok(false);
         }
         self.begin(body, pc, locals)
     }
 
-    /// Says whether the locals stay as they were found, behind an instruction that may write one.
-    pub fn follow(&mut self, writes: Option<ValueKind>)
-        ensures { self.new ≡ record self.old { is_settled = is_none writes } }
+    /// Says whether the locals stay as they were found, behind an instruction that may write one at a place.
+    pub fn follow(&mut self, writes: Option<ValueKind>, place: usize)
+        ensures { self.new ≡ record self.old { is_settled = is_none writes; written = place } }
     {
         self.is_settled = writes.is_none();
+        self.written = place;
     }
 }

@@ -24,7 +24,7 @@ use crate::frames::Written;
 use crate::places::place_behind;
 use crate::shape::Shape;
 use crate::sweep::Sweep;
-use class_code::{Use, has_unknown_site};
+use class_code::{Use, has_unknown_site, local_of};
 use jvm_tables::{CodeFault, Flow, Instr, OpRow, decode, op_row};
 use std::alloc::AllocError;
 
@@ -143,7 +143,7 @@ fn check_shape(
     )? {
         return Ok(false);
     }
-    sweep.follow(row.writes);
+    sweep.follow(row.writes, local_of(row, instr));
     Ok(body.targets_accept(shape, row.flow, instr) && body.ends_well(instr, row))
 }
 

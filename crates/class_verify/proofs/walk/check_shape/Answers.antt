@@ -16,6 +16,6 @@ returns-then-targets_accept-clause-met c =
     (left c.args.body.now.class.now c.args.body.now.limits.stack c.args.row.now c.args.instr.now c.args.shape.now ≡ Some c.leave.new.shape)
     (left c.args.body.now.class.now c.args.body.now.limits.stack c.args.row.now c.args.instr.now c.args.shape.now ≡ None) in
     on_true c.ends_well.result (IsMet (plain c.args.body.now) c.follow.new.self c.args.instr.now.pc c.leave.new.shape.locals)
-    (follows (plain c.args.body.now) c.all_catch.new.self c.follow.new.self c.args.instr.now.pc c.args.body.now.class.now c.args.body.now.limits.stack
+    (follows (plain c.args.body.now) c.all_catch.new.self c.follow.new.self c.args.instr.now.pc _ c.args.body.now.class.now c.args.body.now.limits.stack
     c.args.row.now c.args.instr.now c.args.shape.now c.leave.new.shape (subst S caught c.in_ok-all_catch.ensures.met)
     (subst L is_there c.in_ok-leave.ensures) c.follow.ensures)
