@@ -9,7 +9,7 @@ use Rattle.jvm_heap.specs.Objects.{listed, iterator}
 use Rattle.jvm_heap.specs.Heaps.{allocated, replaced, grown}
 use Rattle.native_model.specs.Worlds.{World, with_heap, as_list, as_iterator, as_array, seen}
 use Rattle.native_model.specs.Thrown.{null_pointer, class_cast, unsupported, no_such_element, list_bounds}
-use Rattle.native_model.specs.Answers.{Answer, throws, Progress, results, gives_nothing, gives_int, gives_truth, gives_reference, gives_made, gives_text, gives_within, on, or_mismatch, calls, text_given, is_true}
+use Rattle.native_model.specs.Answers.{Answer, throws, Progress, last_value, results, gives_nothing, gives_int, gives_truth, gives_reference, gives_made, gives_text, gives_within, on, or_mismatch, calls, text_given, is_true}
 use Rattle.native_model.specs.Strings.{is_index, place_or_less}
 
 -- the list of a number; a class of the build that has no such method is no list
@@ -86,7 +86,7 @@ searched_on o numbers p next true = next (Some (p.answered - 1))
 searched_on o numbers p next false = asked_further o numbers p next (slice_get numbers p.answered)
 
 abbrev pub last_is_true : Progress → Bool
-last_is_true p = list_any is_true (results p)
+last_is_true p = list_any is_true (last_value p.last)
 
 abbrev pub searched : ℕ → List ℕ → Progress → (Option ℕ → Answer) → Answer
 searched zero numbers p next = next (position (nat_eq 0) numbers)
