@@ -3,7 +3,7 @@ use Rattle.std.proofs.Common.{◌≡◌, ℕ, ℤ, List, length, refl, sym, subs
 use Rattle.std.specs.Prelude.{◌++◌, Option, Some, None, IsSome, option_map, option_and_then, Result, Ok}
 use Rattle.class_model.specs.declared.identifiers.ClassId.{ClassId}
 use Rattle.class_model.specs.declared.identifiers.SiteId.{SiteId}
-use Rattle.jvm_heap.specs.declared.slot.Slot.TheVariants.{Ref}
+use Rattle.jvm_heap.specs.declared.slot.Slot.{Slot}
 use Rattle.jvm_heap.specs.declared.fault.HeapFault.{HeapFault}
 use Rattle.jvm_heap.specs.Objects.{Object, throwable, enumerated, builder}
 use Rattle.jvm_heap.specs.Heaps.{Heap, object_at, replaced, grown}
@@ -15,10 +15,9 @@ use Rattle.native_model.specs.declared.native_end.NativeEnd.{NativeEnd}
 use Rattle.native_model.specs.declared.native_end.NativeEnd.TheVariants as ends
 use Rattle.native_model.specs.Worlds.{Origin, NamedObject, NamedHeap, Surround, World, with_heap, as_builder, seen}
 use Rattle.native_model.specs.Thrown.{incompatible_change}
-use Rattle.native_model.specs.Answers.{Answer, throws, gives_nothing, or_mismatch}
-use Rattle.native_model.specs.Strings.{appended, append_to}
+use Rattle.native_model.specs.Answers.{Answer, throws, gives_nothing, gives_within, or_mismatch}
 use Rattle.native_model.specs.Plain.{throwable_with, throwable_made, message_of, enum_made_of, enum_made, name_of}
-use Rattle.native_model.specs.Ends.{named_world, end_of_growing, Answers}
+use Rattle.native_model.specs.Ends.{named_world, end_of_growing, builder_enlarged, Answers}
 use Rattle.native_model.proofs.Told.{read, grew}
 
 none_some : {A : Type 0} (o : Option A) → IsSome o → o ≡ None → ⊥
@@ -81,17 +80,17 @@ module _ (f : ClassId → List ℕ) (g : SiteId → Origin) where
     append_there n more units h is =
         grown_builder n more units (renamed f g h) (object_at n (renamed f g h)) is ∙ (heaps_renamed f g).enlarged (with_units more) (with_units more) n (length more) h ((objects_renamed f g).with_units more)
 
-    appended_there : (n : ℕ) (more units : List ℕ) (r : Result Unit HeapFault) (old new : Heap ClassId SiteId) → Some units ≡ option_and_then as_builder (object_at n (renamed f g old)) → Enlarges (enlarged (with_units more) n (length more) old) r old new → Answers (appended n more (named_world f g old dest log surround owner)) (end_of_growing (Some (Ref n)) r) (named_world f g old dest log surround owner) (named_world f g new dest log surround owner)
-    appended_there n more units r old new is larger =
-        subst (λ t. Answers (or_mismatch t (append_to n more (named_world f g old dest log surround owner))) (end_of_growing (Some (Ref n)) r) (named_world f g old dest log surround owner) (named_world f g new dest log surround owner)) is (grew f g (Some (Ref n)) dest log surround owner (enlarged (with_units more) n (length more) old) (grown n (builder (units ++ more)) (length more) (renamed f g old)) r old new (append_there n more units old is) larger)
+    appended_there : (slot : Option Slot) (n : ℕ) (more units : List ℕ) (r : Result Unit HeapFault) (old new : Heap ClassId SiteId) → Some units ≡ option_and_then as_builder (object_at n (renamed f g old)) → Enlarges (enlarged (with_units more) n (length more) old) r old new → Answers (builder_enlarged slot n more (named_world f g old dest log surround owner)) (end_of_growing slot r) (named_world f g old dest log surround owner) (named_world f g new dest log surround owner)
+    appended_there slot n more units r old new is larger =
+        subst (λ t. Answers (or_mismatch t (λ built. gives_within slot (named_world f g old dest log surround owner) (grown n (builder (built ++ more)) (length more) (renamed f g old)))) (end_of_growing slot r) (named_world f g old dest log surround owner) (named_world f g new dest log surround owner)) is (grew f g slot dest log surround owner (enlarged (with_units more) n (length more) old) (grown n (builder (units ++ more)) (length more) (renamed f g old)) r old new (append_there n more units old is) larger)
 
-    appended_by : (n : ℕ) (more units : List ℕ) (r : Result Unit HeapFault) (old new : Heap ClassId SiteId) (w : World) (end : Result NativeEnd StepFault) → named_world f g old dest log surround owner ≡ w → Some units ≡ seen as_builder n w → Enlarges (enlarged (with_units more) n (length more) old) r old new → end ≡ end_of_growing (Some (Ref n)) r → Answers (appended n more w) end w (named_world f g new dest log surround owner)
-    appended_by n more units r old new w end is seen_there larger ends =
-        subst (λ v. Some units ≡ seen as_builder n v → Answers (appended n more v) end v (named_world f g new dest log surround owner)) is (λ there. subst (λ e. Answers (appended n more (named_world f g old dest log surround owner)) e (named_world f g old dest log surround owner) (named_world f g new dest log surround owner)) (sym ends) (appended_there n more units r old new there larger)) seen_there
+    appended_by : (slot : Option Slot) (n : ℕ) (more units : List ℕ) (r : Result Unit HeapFault) (old new : Heap ClassId SiteId) (w : World) (end : Result NativeEnd StepFault) → named_world f g old dest log surround owner ≡ w → Some units ≡ seen as_builder n w → Enlarges (enlarged (with_units more) n (length more) old) r old new → end ≡ end_of_growing slot r → Answers (builder_enlarged slot n more w) end w (named_world f g new dest log surround owner)
+    appended_by slot n more units r old new w end is seen_there larger ends =
+        subst (λ v. Some units ≡ seen as_builder n v → Answers (builder_enlarged slot n more v) end v (named_world f g new dest log surround owner)) is (λ there. subst (λ e. Answers (builder_enlarged slot n more (named_world f g old dest log surround owner)) e (named_world f g old dest log surround owner) (named_world f g new dest log surround owner)) (sym ends) (appended_there slot n more units r old new there larger)) seen_there
 
-    pub appended_in : (n : ℕ) (more : List ℕ) (r : Result Unit HeapFault) (old new : Heap ClassId SiteId) (w : World) (end : Result NativeEnd StepFault) → named_world f g old dest log surround owner ≡ w → IsSome (seen as_builder n w) → Enlarges (enlarged (with_units more) n (length more) old) r old new → end ≡ end_of_growing (Some (Ref n)) r → Answers (appended n more w) end w (named_world f g new dest log surround owner)
-    appended_in n more r old new w end is there larger ends =
-        from_some (seen as_builder n w) there (λ units seen_there. appended_by n more units r old new w end is seen_there larger ends)
+    pub appended_in : (slot : Option Slot) (n : ℕ) (more : List ℕ) (r : Result Unit HeapFault) (old new : Heap ClassId SiteId) (w : World) (end : Result NativeEnd StepFault) → named_world f g old dest log surround owner ≡ w → IsSome (seen as_builder n w) → Enlarges (enlarged (with_units more) n (length more) old) r old new → end ≡ end_of_growing slot r → Answers (builder_enlarged slot n more w) end w (named_world f g new dest log surround owner)
+    appended_in slot n more r old new w end is there larger ends =
+        from_some (seen as_builder n w) there (λ units seen_there. appended_by slot n more units r old new w end is seen_there larger ends)
 
     changed_there : (before : Object ClassId SiteId → Option (Object ClassId SiteId)) (after : NamedObject → Option NamedObject) (n : ℕ) (old new : Heap ClassId SiteId) → SameChange f g before after → changed before n old ≡ Some new → told (named_world f g old dest log surround owner) (changed after n (renamed f g old)) ≡ gives_nothing (named_world f g new dest log surround owner)
     unfolding told

@@ -47,6 +47,10 @@ last_value _ = []
 abbrev pub results : Progress → List Slot
 results p = p.given ++ last_value p.last
 
+abbrev pub first_of : List Slot → Option Slot
+first_of [] = None
+first_of (slot ∷ slots) = Some slot
+
 abbrev pub last_of : Option Slot → Last
 last_of None = nothing
 last_of (Some slot) = value slot

@@ -1,8 +1,9 @@
 -- What the code's values say: how far a native is, what it answers, and what it throws.
-use Rattle.std.specs.Prelude.{◌≡◌, ℕ, List, [], ◌∷◌, codes, Option, Some, Result, Ok, Err, IfOk, OnErr}
+use Rattle.std.specs.Prelude.{◌≡◌, ℕ, List, [], ◌∷◌, ◌++◌, length, codes, Option, Some, Result, Ok, Err, IfOk, OnErr}
 use Rattle.class_model.specs.declared.identifiers.ClassId.{ClassId}
 use Rattle.class_model.specs.declared.identifiers.SiteId.{SiteId}
-use Rattle.jvm_heap.specs.Heaps.{Heap}
+use Rattle.jvm_heap.specs.Objects.{builder}
+use Rattle.jvm_heap.specs.Heaps.{Heap, grown}
 use Rattle.jvm_heap.specs.Renaming.{renamed}
 use Rattle.jvm_heap.specs.declared.fault.HeapFault.{HeapFault}
 use Rattle.jvm_heap.specs.declared.fault.HeapFault.TheVariants as heap_faults
@@ -17,11 +18,12 @@ use Rattle.native_model.specs.declared.throw.Denial.{Denial}
 use Rattle.native_model.specs.declared.throw.Denial.TheVariants as denials
 use Rattle.native_model.specs.declared.progress.Last.{Last}
 use Rattle.native_model.specs.declared.progress.Last.TheVariants as lasts
+use Rattle.native_model.specs.declared.progress.Progress.{Progress}
 use Rattle.native_model.specs.declared.native_end.Handed.{Handed}
 use Rattle.native_model.specs.declared.native_end.Handed.TheVariants as handed
 use Rattle.native_model.specs.declared.native_end.NativeEnd.{NativeEnd}
 use Rattle.native_model.specs.declared.native_end.NativeEnd.TheVariants as ends
-use Rattle.native_model.specs.Worlds.{Origin, Surround, World}
+use Rattle.native_model.specs.Worlds.{Origin, Surround, World, as_builder}
 use Rattle.native_model.specs.Thrown as thrown
 use Rattle.native_model.specs.Answers as answers
 
@@ -36,6 +38,10 @@ last_of lasts.Nothing = answers.nothing
 last_of (lasts.Slot slot) = answers.value slot
 last_of (lasts.File found) = answers.file found
 last_of (lasts.Names paths) = answers.names paths
+
+-- how far a native is
+abbrev pub progress_of : Progress → answers.Progress
+progress_of p = record { given = p.given; answered = p.answered; last = last_of p.last }
 
 -- what access is denied to
 abbrev pub denial_of : Denial → List ℕ
@@ -91,6 +97,11 @@ abbrev pub end_of_growing : Option Slot → Result Unit HeapFault → Result Nat
 end_of_growing slot (Ok done) = Ok (ends.Gives slot)
 end_of_growing slot (Err heap_faults.Full) = Ok (ends.Spends Cells)
 end_of_growing slot (Err heap_faults.Memory) = Err faults.Memory
+
+-- units are put behind those of a builder, and then something is given
+abbrev pub builder_enlarged : Option Slot → ℕ → List ℕ → World → answers.Answer
+builder_enlarged slot b more w =
+    answers.on as_builder b w (λ units. answers.gives_within slot w (grown b (builder (units ++ more)) (length more) w.heap))
 
 -- what holds where nothing is given
 abbrev pub UnlessGiven : NativeEnd → Type 0 → Type 0

@@ -1,7 +1,7 @@
 //! What is answered where an object is made or made larger.
 
 ghost use Rattle.std.specs.Prelude.{◌≡◌};
-ghost use Rattle.jvm_heap.specs.Objects.{text};
+ghost use Rattle.jvm_heap.specs.Objects.{text, listed, iterator};
 ghost use Rattle.jvm_heap.specs.Heaps.{allocated};
 ghost use Rattle.jvm_heap.specs.Changes.{Makes};
 ghost use Rattle.native_model.specs.Ends.{end_of_making, end_of_growing};
@@ -9,7 +9,9 @@ ghost use Rattle.native_model.specs.Ends.{end_of_making, end_of_growing};
 use crate::budget::Budget;
 use crate::fault::StepFault;
 use crate::native_end::NativeEnd;
+use class_model::ClassId;
 use jvm_heap::{Content, Heap, HeapFault, Object, Slot, Units};
+use sqlite_items::Items;
 
 pub(crate) fn end_of_making(made: Result<u32, HeapFault>) -> Result<NativeEnd, StepFault>
     ensures { result ≡ end_of_making made }
@@ -38,4 +40,21 @@ pub(crate) fn put_text(heap: &mut Heap, units: Units) -> Result<u32, HeapFault>
     ensures { Makes (allocated (text units) heap.old) result heap.old heap.new }
 {
     heap.allocate(Object::of(Content::Text { units }))
+}
+
+pub(crate) fn put_list(
+    heap: &mut Heap,
+    class: ClassId,
+    elements: Vec<u32>,
+) -> Result<u32, HeapFault>
+    ensures { Makes (allocated (listed class elements.items) heap.old) result heap.old heap.new }
+{
+    let elements = Items::from_vec(elements);
+    heap.allocate(Object::of(Content::Listed { class, elements }))
+}
+
+pub(crate) fn put_iterator(heap: &mut Heap, list: u32) -> Result<u32, HeapFault>
+    ensures { Makes (allocated (iterator list 0) heap.old) result heap.old heap.new }
+{
+    heap.allocate(Object::of(Content::Iterator { list, next: 0 }))
 }

@@ -4,11 +4,13 @@ ghost use Rattle.std.specs.Prelude.{◌≡◌, ℕ, List, option_map};
 ghost use Rattle.std.specs.Option.{option_copied};
 ghost use Rattle.class_model.specs.declared.identifiers.ClassId.{ClassId};
 ghost use Rattle.class_model.specs.declared.identifiers.SiteId.{SiteId};
-ghost use Rattle.jvm_heap.specs.Renaming.{renamed_object};
-ghost use Rattle.native_model.specs.Worlds.{Origin, as_text, as_int, as_long, as_boolean, as_builder, as_iterator};
+ghost use Rattle.jvm_heap.specs.Contents.{kind_of};
+ghost use Rattle.jvm_heap.specs.Renaming.{renamed_object, renamed_kind};
+ghost use Rattle.native_model.specs.Worlds.{Origin, as_text, as_int, as_long, as_boolean, as_builder, as_iterator, as_list, as_array, as_reference};
 ghost use Rattle.native_model.specs.Plain.{name_of, ordinal_of, message_of, cause_of};
 
-use jvm_heap::{Content, Object};
+use class_model::ClassId;
+use jvm_heap::{ArrayKind, Content, Object, PathReference, Slot};
 
 pub(crate) fn text_in(object: &Object) -> Option<&[u16]>
     ensures { (f : ClassId → List ℕ) (g : SiteId → Origin) →
@@ -106,6 +108,38 @@ pub(crate) fn cause_in(object: &Object) -> Option<u32>
 {
     match object.content() {
         Content::Throwable { cause, .. } => Some(*cause),
+        _ => None,
+    }
+}
+
+pub(crate) fn list_in(object: &Object) -> Option<(ClassId, &[u32])>
+    ensures { (f : ClassId → List ℕ) (g : SiteId → Origin) →
+        option_map (λ l. (f l.0, l.1.now)) result ≡ as_list (renamed_object f g object.now) }
+{
+    match object.content() {
+        Content::Listed { class, elements } => Some((*class, elements.as_slice())),
+        _ => None,
+    }
+}
+
+pub(crate) fn array_in(object: &Object) -> Option<(ArrayKind, &[Slot])>
+    ensures { (f : ClassId → List ℕ) (g : SiteId → Origin) →
+        option_map (λ a. (renamed_kind f (kind_of a.0), a.1.now)) result
+        ≡ as_array (renamed_object f g object.now) }
+{
+    match object.content() {
+        Content::Array { kind, elements } => Some((*kind, elements.as_slice())),
+        _ => None,
+    }
+}
+
+pub(crate) fn reference_in(object: &Object) -> Option<&PathReference>
+    ensures { (f : ClassId → List ℕ) (g : SiteId → Origin) →
+        option_map (λ r. record { owner = r.now.owner; path = r.now.path }) result
+        ≡ as_reference (renamed_object f g object.now) }
+{
+    match object.content() {
+        Content::PathReference { reference } => Some(reference.get()),
         _ => None,
     }
 }

@@ -7,8 +7,7 @@ ghost use Rattle.native_model.specs.Plain.{name_of, ordinal_of, message_of, caus
 ghost use Rattle.jvm_heap.specs.Heaps.{most_cells, box_of_boolean};
 ghost use Rattle.native_model.specs.Answers.{gives_text, gives_made};
 ghost use Rattle.native_model.specs.Numbers.{int_box, long_box};
-ghost use Rattle.native_model.specs.Strings.{appended};
-ghost use Rattle.native_model.specs.Ends.{named_world, Answers};
+ghost use Rattle.native_model.specs.Ends.{named_world, builder_enlarged, Answers};
 
 use crate::dest::Dest;
 use crate::fault::StepFault;
@@ -29,12 +28,12 @@ use tree_value::{Lines, Text};
 /// All that natives read and change. Its objects tell classes and sites by place, and contracts see them by name.
 #[derive(Drop)]
 pub struct World<N: Naming> {
-    names: N,
-    heap: Heap,
-    dest: Dest,
-    log: Lines,
-    surround: Option<Surround>,
-    owner: Option<Text>,
+    pub(crate) names: N,
+    pub(crate) heap: Heap,
+    pub(crate) dest: Dest,
+    pub(crate) log: Lines,
+    pub(crate) surround: Option<Surround>,
+    pub(crate) owner: Option<Text>,
 }
 
 impl<N: Naming> Model for World<N> {
@@ -209,20 +208,30 @@ impl<N: Naming> World<N> {
         end_of_making(made)
     }
 
-    fn grow_builder(&mut self, number: u32, more: &[u16]) -> Result<NativeEnd, StepFault>
+    fn grow_builder(
+        &mut self,
+        number: u32,
+        more: &[u16],
+        slot: Option<Slot>,
+    ) -> Result<NativeEnd, StepFault>
         requires { IsSome (seen as_builder number self.old) }
-        ensures { Answers (appended number more.now self.old) result self.old self.new }
+        ensures { Answers (builder_enlarged slot number more.now self.old) result self.old self.new }
     {
         let grown = self.heap.append(number, more);
-        end_of_growing(Some(Slot::Ref(number)), grown)
+        end_of_growing(slot, grown)
     }
 
-    /// Puts units behind those of a builder, and gives the builder.
-    pub fn append(&mut self, number: u32, more: &[u16]) -> Result<NativeEnd, StepFault>
-        ensures { Answers (appended number more.now self.old) result self.old self.new }
+    /// Puts units behind those of a builder, and gives a value or none.
+    pub fn append(
+        &mut self,
+        number: u32,
+        more: &[u16],
+        slot: Option<Slot>,
+    ) -> Result<NativeEnd, StepFault>
+        ensures { Answers (builder_enlarged slot number more.now self.old) result self.old self.new }
     {
         match self.builder(number) {
-            Some(_) => self.grow_builder(number, more),
+            Some(_) => self.grow_builder(number, more, slot),
             None => Ok(NativeEnd::Throws(Throw::IncompatibleChange)),
         }
     }

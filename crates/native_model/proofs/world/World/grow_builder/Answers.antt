@@ -5,4 +5,4 @@ pub append-grown-requires : goal.append-grown-requires
 append-grown-requires g c = can_append _ _ _ _ _ _ _ _ _ _ c.self.view_is c.requires
 
 pub returns : goal.returns
-returns g c = appended_in _ _ _ _ _ _ _ _ _ _ _ _ _ c.self.view_is c.requires c.append-grown.ensures c.end_of_growing.ensures
+returns g c = appended_in _ _ _ _ _ _ _ _ _ _ _ _ _ _ c.self.view_is c.requires c.append-grown.ensures c.end_of_growing.ensures
