@@ -3,11 +3,36 @@
 ghost use Rattle.std.specs.Prelude.{◌≡◌};
 ghost use Rattle.native_model.specs.Ends.{answer_of, Answers};
 ghost use Rattle.native_model.specs.Texts.{unit_of};
-ghost use Rattle.native_model.specs.Strings.{builder_text, builder_length, append_text, append_char, append_truth};
+ghost use Rattle.native_model.specs.Strings.{builder_made, builder_text, builder_length, appended, append_text, append_char, append_truth};
 
 use crate::found::{builder_copy, text_copy};
 use jvm_heap::Slot;
 use native_model::{Naming, NativeEnd, StepFault, Throw, World};
+
+/// Puts units behind those of a builder, and gives the builder.
+pub(crate) fn append<N: Naming>(
+    builder: u32,
+    more: &[u16],
+    world: &mut World<N>,
+) -> Result<NativeEnd, StepFault>
+    ensures { Answers (appended builder more.now world.old) result world.old world.new }
+{
+    world.append(builder, more, Some(Slot::Ref(builder)))
+}
+
+/// `new StringBuilder(String)`: the units of a text behind those of the builder.
+pub fn builder_made<N: Naming>(
+    builder: u32,
+    text: u32,
+    world: &mut World<N>,
+) -> Result<NativeEnd, StepFault>
+    ensures { Answers (builder_made builder text world.old) result world.old world.new }
+{
+    match text_copy(text, world)? {
+        Some(more) => world.append(builder, more.as_slice(), None),
+        None => Ok(NativeEnd::Throws(Throw::IncompatibleChange)),
+    }
+}
 
 /// `StringBuilder.toString()`.
 pub fn builder_text<N: Naming>(builder: u32, world: &mut World<N>) -> Result<NativeEnd, StepFault>
@@ -38,10 +63,10 @@ pub fn append_text<N: Naming>(
     ensures { Answers (append_text builder text world.old) result world.old world.new }
 {
     if text == 0 {
-        return world.append(builder, &[0x6e, 0x75, 0x6c, 0x6c]);
+        return append(builder, &[0x6e, 0x75, 0x6c, 0x6c], world);
     }
     match text_copy(text, world)? {
-        Some(more) => world.append(builder, more.as_slice()),
+        Some(more) => append(builder, more.as_slice(), world),
         None => Ok(NativeEnd::Throws(Throw::IncompatibleChange)),
     }
 }
@@ -60,7 +85,7 @@ pub fn append_char<N: Naming>(
 ) -> Result<NativeEnd, StepFault>
     ensures { Answers (append_char builder unit world.old) result world.old world.new }
 {
-    world.append(builder, &[unit_of(unit)])
+    append(builder, &[unit_of(unit)], world)
 }
 
 /// `StringBuilder.append(boolean)`.
@@ -72,8 +97,8 @@ pub fn append_truth<N: Naming>(
     ensures { Answers (append_truth builder truth world.old) result world.old world.new }
 {
     if truth == 0 {
-        world.append(builder, &[0x66, 0x61, 0x6c, 0x73, 0x65])
+        append(builder, &[0x66, 0x61, 0x6c, 0x73, 0x65], world)
     } else {
-        world.append(builder, &[0x74, 0x72, 0x75, 0x65])
+        append(builder, &[0x74, 0x72, 0x75, 0x65], world)
     }
 }

@@ -2,10 +2,11 @@
 
 ghost use Rattle.std.specs.Prelude.{◌≡◌, ◌++◌, IfOk};
 ghost use Rattle.native_model.specs.Worlds.{as_text, as_builder, seen};
-ghost use Rattle.native_text.specs.Found.{joined_texts};
+ghost use Rattle.native_model.specs.Ends.{Answers};
+ghost use Rattle.native_text.specs.Found.{joined_texts, text_or_thrown};
 
 use jvm_heap::Units;
-use native_model::{Naming, StepFault, World};
+use native_model::{Naming, NativeEnd, StepFault, Throw, World};
 use std::alloc::{AllocError, Global};
 
 /// Units one behind the other.
@@ -55,5 +56,18 @@ pub(crate) fn joined_texts<N: Naming>(
             None => Ok(None),
         },
         None => Ok(None),
+    }
+}
+
+/// A text of units that were made, or what is thrown in its place.
+pub(crate) fn give_or_throw<N: Naming>(
+    made: Result<Units, Throw>,
+    world: &mut World<N>,
+) -> Result<NativeEnd, StepFault>
+    ensures { Answers (text_or_thrown made world.old) result world.old world.new }
+{
+    match made {
+        Ok(units) => world.give_text(units),
+        Err(what) => Ok(NativeEnd::Throws(what)),
     }
 }

@@ -3,10 +3,12 @@
 ghost use Rattle.std.specs.Prelude.{◌≡◌, IfOk};
 ghost use Rattle.std.specs.Fmt.{signed_decimal};
 ghost use Rattle.native_model.specs.Ends.{Answers};
-ghost use Rattle.native_model.specs.Numbers.{int_text, int_box_text, long_box_text};
-ghost use Rattle.native_model.specs.Strings.{text_of_number, text_of_char, append_number};
+ghost use Rattle.native_model.specs.Answers.{truth};
+ghost use Rattle.native_model.specs.Numbers.{int_text, int_box_text, long_box_text, boolean_box_text};
+ghost use Rattle.native_model.specs.Texts.{truth_text};
+ghost use Rattle.native_model.specs.Strings.{text_of_number, text_of_truth, text_of_char, append_number};
 
-use crate::builders::unit_of;
+use crate::builders::{append, unit_of};
 use jvm_heap::Units;
 use native_model::{Naming, NativeEnd, StepFault, Throw, World};
 use std::alloc::{AllocError, Global};
@@ -28,6 +30,16 @@ fn decimal(alloc: Global, n: i64) -> Result<Units, AllocError>
     units_of_ascii(alloc, text.as_bytes())
 }
 
+fn truth_units(alloc: Global, truth: i32) -> Result<Units, AllocError>
+    ensures { IfOk result (λ units. units ≡ truth_text truth) }
+{
+    if truth == 0 {
+        Units::from_slice(alloc, &[0x66, 0x61, 0x6c, 0x73, 0x65])
+    } else {
+        Units::from_slice(alloc, &[0x74, 0x72, 0x75, 0x65])
+    }
+}
+
 /// `Integer.toString(int)` and `Long.toString(long)`.
 pub fn int_text<N: Naming>(n: i64, world: &mut World<N>) -> Result<NativeEnd, StepFault>
     ensures { Answers (int_text n world.old) result world.old world.new }
@@ -41,6 +53,14 @@ pub fn text_of_number<N: Naming>(n: i64, world: &mut World<N>) -> Result<NativeE
     ensures { Answers (text_of_number n world.old) result world.old world.new }
 {
     let units = decimal(world.allocator(), n)?;
+    world.give_text(units)
+}
+
+/// `String.valueOf(boolean)`.
+pub fn text_of_truth<N: Naming>(n: i32, world: &mut World<N>) -> Result<NativeEnd, StepFault>
+    ensures { Answers (text_of_truth n world.old) result world.old world.new }
+{
+    let units = truth_units(world.allocator(), n)?;
     world.give_text(units)
 }
 
@@ -61,7 +81,7 @@ pub fn append_number<N: Naming>(
     ensures { Answers (append_number builder n world.old) result world.old world.new }
 {
     let units = decimal(world.allocator(), n)?;
-    world.append(builder, units.as_slice())
+    append(builder, units.as_slice(), world)
 }
 
 /// `Integer.toString()`.
@@ -84,6 +104,22 @@ pub fn long_box_text<N: Naming>(object: u32, world: &mut World<N>) -> Result<Nat
     match world.long(object) {
         Some(n) => {
             let units = decimal(world.allocator(), n)?;
+            world.give_text(units)
+        }
+        None => Ok(NativeEnd::Throws(Throw::IncompatibleChange)),
+    }
+}
+
+/// `Boolean.toString()`.
+pub fn boolean_box_text<N: Naming>(
+    object: u32,
+    world: &mut World<N>,
+) -> Result<NativeEnd, StepFault>
+    ensures { Answers (boolean_box_text object world.old) result world.old world.new }
+{
+    match world.boolean(object) {
+        Some(is) => {
+            let units = truth_units(world.allocator(), i32::from(is))?;
             world.give_text(units)
         }
         None => Ok(NativeEnd::Throws(Throw::IncompatibleChange)),
