@@ -1,6 +1,6 @@
 //! The store over the files of a root folder.
 
-ghost use Rattle.std.specs.Prelude.{◌≡◌, ◌<◌, length, None, IfOk, IfErr, IsOk, IsErrOf};
+ghost use Rattle.std.specs.Prelude.{◌≡◌, ◌<◌, [], length, None, IfOk, IfErr, IsOk, IsErrOf};
 ghost use Rattle.io_traits.specs.Causes.{HasCause};
 ghost use Rattle.io_traits.specs.Files.{IsInOrder};
 ghost use Rattle.io_real.specs.Counts.{settled, kept_now, no_faults};
@@ -114,6 +114,8 @@ impl<R: Files<File = File> + AllocGlobal + Clone + Drop> Store for RealStore<R> 
     ghost faults = { λ store. store.count.now };
 
     ghost kept = { λ store. (None, store.count.kept) };
+
+    ghost plan = { λ store. [] };
 
     fn get(&mut self, name: &Path) -> Result<Option<Bytes>, IoFault>
         ensures own { IsOwn name.now → IsErrOf result IoFault.Failed }

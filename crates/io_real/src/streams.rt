@@ -1,6 +1,6 @@
 //! Standard input and standard output.
 
-ghost use Rattle.std.specs.Prelude.{◌≡◌, ◌<◌, ◌≤◌, length, None, IfOk, IsOk, IsErrOf};
+ghost use Rattle.std.specs.Prelude.{◌≡◌, ◌<◌, ◌≤◌, [], length, None, IfOk, IsOk, IsErrOf};
 ghost use Rattle.std.specs.Io.KnownBytes.{ReadConsumes, WriteAppends};
 ghost use Rattle.io_traits.specs.Causes.{HasCause};
 ghost use Rattle.io_real.specs.Counts.{settled, kept_now, no_faults};
@@ -32,6 +32,8 @@ impl<I: Read + Drop> Source for RealSource<I> {
     ghost left = { λ source. None };
 
     ghost faults = { λ source. source.count.now };
+
+    ghost plan = { λ source. [] };
 
     fn read(&mut self, into: &mut [u8]) -> Result<usize, IoFault>
         ensures within { IfOk result (λ n. n ≤ length into.old) }
@@ -84,6 +86,8 @@ impl<O: Write + Drop> Sink for RealSink<O> {
     ghost faults = { λ sink. sink.count.now };
 
     ghost kept = { λ sink. (None, sink.count.kept) };
+
+    ghost plan = { λ sink. [] };
 
     fn begin(&mut self) -> Result<(), IoFault>
         ensures done { IsOk result }

@@ -1,6 +1,6 @@
 //! The workspace over the files of a root folder.
 
-ghost use Rattle.std.specs.Prelude.{◌≡◌, None, IfOk, IfErr, IsOk, IsTrue};
+ghost use Rattle.std.specs.Prelude.{◌≡◌, [], None, IfOk, IfErr, IsOk, IsTrue};
 ghost use Rattle.io_traits.specs.Causes.{HasCause};
 ghost use Rattle.io_traits.specs.Files.{IsInOrder};
 ghost use Rattle.io_real.specs.Counts.{settled, kept_now, no_faults};
@@ -45,6 +45,8 @@ impl<R: Files + AllocGlobal + Clone + Drop> Workspace for RealWorkspace<R> {
     ghost faults = { λ workspace. workspace.count.now };
 
     ghost kept = { λ workspace. (None, workspace.count.kept) };
+
+    ghost plan = { λ workspace. [] };
 
     fn begin(&mut self) -> Result<(), IoFault>
         ensures done { IsOk result }

@@ -8,18 +8,22 @@ use Rattle.io_traits.specs.declared.faults.IoFault.TheVariants.{Failed}
 use Rattle.io_traits.specs.declared.plans.Leaves.{Leaves}
 use Rattle.io_traits.specs.declared.plans.Leaves.TheVariants.{Old, New, Nothing}
 
--- the numbers of the calls that are to fail, each with what it leaves, and how many calls and failures there were
+-- the numbers of the calls that are to fail, each with what it leaves
+abbrev pub FailingCalls : Type 0
+FailingCalls = List (ℕ × Leaves)
+
+-- the calls that are to fail, and how many calls and failures there were
 pub record Planned : Type 0 where
-  pub failing : List (ℕ × Leaves)
+  pub failing : FailingCalls
   pub calls : ℕ
   pub faults : ℕ
 
 -- the plan of a device that had no call yet
-abbrev pub planned : List (ℕ × Leaves) → Planned
+abbrev pub planned : FailingCalls → Planned
 planned failing = record { failing = failing; calls = 0; faults = 0 }
 
 -- calls that leave all as it was where they fail
-abbrev pub leaving_old : List ℕ → List (ℕ × Leaves)
+abbrev pub leaving_old : List ℕ → FailingCalls
 leaving_old numbers = map (λ number. (number, Old)) numbers
 
 -- what the next call leaves, if its number is among those that are to fail

@@ -91,6 +91,8 @@ impl Store for MemStore {
 
     ghost kept = { λ store. (Some store.kept.0, store.kept.1) };
 
+    ghost plan = { λ store. store.plan.failing };
+
     fn get(&mut self, name: &Path) -> Result<Option<Bytes>, IoFault>
         ensures found { IfOk result (λ found. found ≡ get self.old.contents name.now) }
         ensures state { self.new ≡ record self.old { plan = after_call self.old.plan } }

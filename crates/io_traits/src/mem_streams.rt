@@ -39,6 +39,8 @@ impl Source for MemSource {
 
     ghost faults = { λ source. source.plan.faults };
 
+    ghost plan = { λ source. source.plan.failing };
+
     fn read(&mut self, into: &mut [u8]) -> Result<usize, IoFault>
         ensures full { IfOk result (λ n.
             n ≡ min (length into.old) (length self.old.bytes - self.old.at)) }
@@ -105,6 +107,8 @@ impl Sink for MemSink {
     ghost faults = { λ sink. sink_faults sink.plan sink.wants };
 
     ghost kept = { λ sink. (Some sink.kept.0, sink.kept.1) };
+
+    ghost plan = { λ sink. sink.plan.failing };
 
     fn begin(&mut self) -> Result<(), IoFault>
         ensures ok { OnOk result (self.new ≡ record self.old {

@@ -64,6 +64,8 @@ impl Workspace for MemWorkspace {
 
     ghost kept = { λ workspace. (Some workspace.kept.0, workspace.kept.1) };
 
+    ghost plan = { λ workspace. workspace.plan.failing };
+
     fn begin(&mut self) -> Result<(), IoFault>
         ensures ok { OnOk result (self.new ≡ record self.old {
           kept = (self.old.contents, self.old.plan.faults);

@@ -3,6 +3,7 @@
 ghost use Rattle.std.specs.Prelude.{◌≡◌, ℕ, ◌<◌, ◌≤◌, List, [], length, take, Option, IfOk, IfSome, OnOk, OnErr, IsErrOf};
 ghost use Rattle.io_traits.specs.Causes.{HasCause};
 ghost use Rattle.io_traits.specs.Streams.{Got, Gave};
+ghost use Rattle.io_traits.specs.Planned.{FailingCalls};
 
 use crate::IoFault;
 
@@ -16,6 +17,9 @@ pub trait Source {
     /// How many faults there were, which never falls and stands still at the last number of 64 bits.
     ghost faults: { Self → ℕ };
 
+    /// The calls that are to fail, as they were first planned: what no call changes. Where nothing is planned, none.
+    ghost plan: { Self → FailingCalls };
+
     /// Fills the front of the slice with the next bytes and answers how many; 0 for a slice that is not
     /// empty is the end.
     fn read(&mut self, into: &mut [u8]) -> Result<usize, IoFault>
@@ -23,7 +27,8 @@ pub trait Source {
         ensures ok { IfOk result (λ n. Gave (left self.old) (left self.new) (take n into.new)) }
         ensures end { IfOk result (λ n. 0 < length into.old → n ≡ 0 → IfSome (left self.old) (λ bytes. bytes ≡ [])) }
         ensures err { OnErr result (left self.new ≡ left self.old) }
-        ensures cause { HasCause (faults self.old) (faults self.new) result };
+        ensures cause { HasCause (faults self.old) (faults self.new) result }
+        ensures plan { plan self.new ≡ plan self.old };
 }
 
 /// Bytes that go out, as standard output takes them.
@@ -37,13 +42,17 @@ pub trait Sink {
     /// The bytes and the count as they were at the last `begin`, or when the sink was made.
     ghost kept: { Self → Option (List ℕ) × ℕ };
 
+    /// The calls that are to fail, as they were first planned: what no call changes. Where nothing is planned, none.
+    ghost plan: { Self → FailingCalls };
+
     /// Keeps the present bytes and count; nothing else changes, and its one refusal is `Memory`.
     fn begin(&mut self) -> Result<(), IoFault>
         ensures ok { OnOk result (kept self.new ≡ (got self.old, faults self.old)) }
         ensures err { OnErr result (kept self.new ≡ kept self.old) }
         ensures got { got self.new ≡ got self.old }
         ensures count { faults self.new ≡ faults self.old }
-        ensures only_memory { ¬ IsErrOf result IoFault.Failed };
+        ensures only_memory { ¬ IsErrOf result IoFault.Failed }
+        ensures plan { plan self.new ≡ plan self.old };
 
     /// The present count of faults.
     fn faults(&self) -> u64
@@ -58,5 +67,6 @@ pub trait Sink {
         ensures err { OnErr result (got self.new ≡ got self.old) }
         ensures never_memory { ¬ IsErrOf result IoFault.Memory }
         ensures cause { HasCause (faults self.old) (faults self.new) result }
-        ensures kept { kept self.new ≡ kept self.old };
+        ensures kept { kept self.new ≡ kept self.old }
+        ensures plan { plan self.new ≡ plan self.old };
 }

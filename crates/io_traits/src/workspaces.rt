@@ -3,6 +3,7 @@
 ghost use Rattle.std.specs.Prelude.{◌≡◌, ℕ, Option, IfOk, IfSome, OnOk, OnErr, IsErrOf};
 ghost use Rattle.io_traits.specs.Causes.{HasCause};
 ghost use Rattle.io_traits.specs.Files.{Files, get, names, IsInOrder};
+ghost use Rattle.io_traits.specs.Planned.{FailingCalls};
 
 use crate::IoFault;
 use tree_value::{Bytes, Path};
@@ -20,13 +21,17 @@ pub trait Workspace {
     /// The content and the count as they were at the last `begin`, or when the workspace was made.
     ghost kept: { Self → Option Files × ℕ };
 
+    /// The calls that are to fail, as they were first planned: what no call changes. Where nothing is planned, none.
+    ghost plan: { Self → FailingCalls };
+
     /// Keeps the present content and count; nothing else changes, and its one refusal is `Memory`.
     fn begin(&mut self) -> Result<(), IoFault>
         ensures ok { OnOk result (kept self.new ≡ (content self.old, faults self.old)) }
         ensures err { OnErr result (kept self.new ≡ kept self.old) }
         ensures content { content self.new ≡ content self.old }
         ensures count { faults self.new ≡ faults self.old }
-        ensures only_memory { ¬ IsErrOf result IoFault.Failed };
+        ensures only_memory { ¬ IsErrOf result IoFault.Failed }
+        ensures plan { plan self.new ≡ plan self.old };
 
     /// The present count of faults.
     fn faults(&self) -> u64
@@ -38,12 +43,14 @@ pub trait Workspace {
         ensures all { IfOk result (λ listed. IfSome (content self.old) (λ files. listed.items ≡ names files)) }
         ensures content { content self.new ≡ content self.old }
         ensures cause { HasCause (faults self.old) (faults self.new) result }
-        ensures kept { kept self.new ≡ kept self.old };
+        ensures kept { kept self.new ≡ kept self.old }
+        ensures plan { plan self.new ≡ plan self.old };
 
     /// The bytes under the name, or `None`.
     fn read(&mut self, name: &Path) -> Result<Option<Bytes>, IoFault>
         ensures found { IfOk result (λ found. IfSome (content self.old) (λ files. found ≡ get files name.now)) }
         ensures content { content self.new ≡ content self.old }
         ensures cause { HasCause (faults self.old) (faults self.new) result }
-        ensures kept { kept self.new ≡ kept self.old };
+        ensures kept { kept self.new ≡ kept self.old }
+        ensures plan { plan self.new ≡ plan self.old };
 }
