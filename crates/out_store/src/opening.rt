@@ -88,6 +88,7 @@ fn read_one<S: Store>(
     ensures content { S.content store.new ≡ S.content store.old }
     ensures cause { HasCause (S.faults store.old) (S.faults store.new) result }
     ensures kept { S.kept store.new ≡ S.kept store.old }
+    ensures plan { S.plan store.new ≡ S.plan store.old }
 {
     let Some(task) = task_of_entry(alloc, name)? else {
         return Ok(());
@@ -109,6 +110,7 @@ fn read_entries<S: Store>(alloc: Global, store: &mut S, listed: &[Path]) -> Resu
     ensures content { S.content store.new ≡ S.content store.old }
     ensures cause { HasCause (S.faults store.old) (S.faults store.new) result }
     ensures kept { S.kept store.new ≡ S.kept store.old }
+    ensures plan { S.plan store.new ≡ S.plan store.old }
 {
     let mut numbers = Numbers::none(alloc);
     let mut entries = Vec::new(alloc);
@@ -151,6 +153,7 @@ pub(crate) fn open<S: Store>(alloc: Global, store: &mut S) -> Result<Found, OutF
         × ((files : Files) → S.content store.old ≡ Some files → (name : List ℕ) → Contains gone name → IsUnpublished files name)) }
     ensures cause { HasCause (S.faults store.old) (S.faults store.new) result }
     ensures kept { S.kept store.new ≡ S.kept store.old }
+    ensures plan { S.plan store.new ≡ S.plan store.old }
 {
     let listed = store.list()?;
     let found = read_entries(alloc, store, &listed)?;

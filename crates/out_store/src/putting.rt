@@ -108,6 +108,7 @@ impl Texts {
         ensures err { OnErr result (LeftByPuts ((self.now.log_name, self.now.log) ∷ (self.now.entry_name, self.now.entry) ∷ []) (S.content store.old) (S.content store.new)) }
         ensures cause { HasCause (S.faults store.old) (S.faults store.new) result }
         ensures kept { S.kept store.new ≡ S.kept store.old }
+        ensures plan { S.plan store.new ≡ S.plan store.old }
     {
         store.put(&self.log_name, &self.log)?;
         store.put(&self.entry_name, &self.entry)?;
@@ -130,6 +131,7 @@ pub(crate) fn put_dest<S: Store>(
     ensures err { OnErr result (LeftByPuts (dest_puts task.now number files.now) (S.content store.old) (S.content store.new)) }
     ensures cause { HasCause (S.faults store.old) (S.faults store.new) result }
     ensures kept { S.kept store.new ≡ S.kept store.old }
+    ensures plan { S.plan store.new ≡ S.plan store.old }
 {
     for (path, bytes) in files {
         let name = generation_name(alloc, task, number, path)?;
@@ -157,6 +159,7 @@ fn put_run<S: Store>(
     ensures err { OnErr result (LeftByPuts (puts_of run.now number) (S.content store.old) (S.content store.new)) }
     ensures cause { HasCause (S.faults store.old) (S.faults store.new) result }
     ensures kept { S.kept store.new ≡ S.kept store.old }
+    ensures plan { S.plan store.new ≡ S.plan store.old }
 {
     put_dest(alloc, store, &run.task, number, run.dest.as_slice())?;
     texts.put(store)?;
@@ -178,6 +181,7 @@ pub(crate) fn put_next<S: Store>(
     ensures went { WentBy run.now numbers.old numbers.new (S.content store.old) (S.content store.new) }
     ensures cause { HasCause (S.faults store.old) (S.faults store.new) result }
     ensures kept { S.kept store.new ≡ S.kept store.old }
+    ensures plan { S.plan store.new ≡ S.plan store.old }
 {
     let number = numbers.take(&run.task)?;
     let texts = Texts::of(alloc, run, number)?;

@@ -44,6 +44,7 @@ pub(crate) fn look<S: Store>(
     ensures content { S.content store.new ≡ S.content store.old }
     ensures cause { HasCause (S.faults store.old) (S.faults store.new) result }
     ensures kept { S.kept store.new ≡ S.kept store.old }
+    ensures plan { S.plan store.new ≡ S.plan store.old }
 {
     match store.get(name)? {
         Some(bytes) => Ok(read_own(alloc, bytes.as_slice(), task)?),

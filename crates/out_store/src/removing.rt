@@ -18,6 +18,7 @@ pub(crate) fn remove_two<S: Store>(
     ensures err { OnErr result (LeftByRemoves (first.now ∷ second.now ∷ []) (S.content store.old) (S.content store.new)) }
     ensures cause { HasCause (S.faults store.old) (S.faults store.new) result }
     ensures kept { S.kept store.new ≡ S.kept store.old }
+    ensures plan { S.plan store.new ≡ S.plan store.old }
 {
     store.remove(first)?;
     store.remove(second)?;
@@ -30,6 +31,7 @@ pub(crate) fn remove_all<S: Store>(store: &mut S, names: &[Path]) -> Result<(), 
     ensures err { OnErr result (LeftByRemoves names.now (S.content store.old) (S.content store.new)) }
     ensures cause { HasCause (S.faults store.old) (S.faults store.new) result }
     ensures kept { S.kept store.new ≡ S.kept store.old }
+    ensures plan { S.plan store.new ≡ S.plan store.old }
 {
     for name in names {
         store.remove(name)?;

@@ -49,6 +49,7 @@ impl<S: Store> Out<S> {
         ensures later { MatchResult result (λ out. S.faults store ≤ S.faults out.store) (λ refused. S.faults store ≤ S.faults refused.0) }
         ensures fault { IfErr result (λ refused. refused.1 ≡ OutFault.Fault → Rose (S.faults store) (S.faults refused.0)) }
         ensures kept { MatchResult result (λ out. S.kept out.store ≡ S.kept store) (λ refused. S.kept refused.0 ≡ S.kept store) }
+        ensures plan { MatchResult result (λ out. S.plan out.store ≡ S.plan store) (λ refused. S.plan refused.0 ≡ S.plan store) }
     {
         let mut store = store;
         match open(alloc, &mut store) {
@@ -74,6 +75,7 @@ impl<S: Store> Out<S> {
         ensures opening { self.new.opening ≡ self.old.opening }
         ensures cause { HasCause (S.faults self.old.store) (S.faults self.new.store) result }
         ensures kept { S.kept self.new.store ≡ S.kept self.old.store }
+        ensures plan { S.plan self.new.store ≡ S.plan self.old.store }
     {
         let name = entry_name(self.alloc, task)?;
         look(self.alloc, &mut self.store, &name, task)
@@ -91,6 +93,7 @@ impl<S: Store> Out<S> {
         ensures opening { self.new.opening ≡ self.old.opening }
         ensures cause { HasCause (S.faults self.old.store) (S.faults self.new.store) result }
         ensures kept { S.kept self.new.store ≡ S.kept self.old.store }
+        ensures plan { S.plan self.new.store ≡ S.plan self.old.store }
     {
         let entry = entry_name(self.alloc, task)?;
         let log = log_name(self.alloc, task)?;
@@ -112,6 +115,7 @@ impl<S: Store> Out<S> {
         ensures stands { (rows : List Row) (lost : List (List ℕ)) → KnowsIn (S.content self.old.store) self.old.numbers → StandsIn (S.content self.old.store) rows lost → StandsIn (S.content self.new.store) (row_of run.now ∷ rows) lost }
         ensures cause { HasCause (S.faults self.old.store) (S.faults self.new.store) result }
         ensures kept { S.kept self.new.store ≡ S.kept self.old.store }
+        ensures plan { S.plan self.new.store ≡ S.plan self.old.store }
     {
         put_next(self.alloc, &mut self.store, &mut self.numbers, run)
     }

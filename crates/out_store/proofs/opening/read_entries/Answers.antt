@@ -30,6 +30,7 @@ loop-name-preserved g c = record {
   content = c.in_ok-read_one.ensures.content ∙ c.loop-name.invariant.content;
   later = omega (arith, c.in_ok-read_one.ensures.cause.later, c.loop-name.invariant.later);
   kept = c.in_ok-read_one.ensures.kept ∙ c.loop-name.invariant.kept;
+  plan = c.in_ok-read_one.ensures.plan ∙ c.loop-name.invariant.plan;
 }
 
 pub loop-name-init : goal.loop-name-init
@@ -41,6 +42,7 @@ loop-name-init g c = record {
   content = refl;
   later = omega arith;
   kept = refl;
+  plan = refl;
 }
 
 pub returns-clause-opens : goal.returns-clause-opens

@@ -28,6 +28,7 @@ loop-path-preserved g c = record {
       ∙ sym (put_more c.args.files.now c.loop-path.path-index c.loop-path-item.result c.loop-path-test.true c.loop-path-item.is (placed c.args.task.now c.args.number) (g.S.Store.content c.args.store.now));
   later = omega (arith, c.in_ok-put.ensures.cause.later, c.loop-path.invariant.later);
   kept = c.in_ok-put.ensures.kept ∙ c.loop-path.invariant.kept;
+  plan = c.in_ok-put.ensures.plan ∙ c.loop-path.invariant.plan;
 }
 
 pub returns-clause-ok : goal.returns-clause-ok

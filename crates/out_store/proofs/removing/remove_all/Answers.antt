@@ -14,6 +14,7 @@ loop-name-preserved g c = record {
   content = c.in_ok-remove.ensures.ok ∙ ap (take_out c.name-item.result) c.loop-name.invariant.content ∙ sym (removed_more c.args.names.now c.loop-name.name-index c.name-item.result c.loop-name-test.true c.name-item.is (g.S.Store.content c.args.store.now));
   later = omega (arith, c.in_ok-remove.ensures.cause.later, c.loop-name.invariant.later);
   kept = c.in_ok-remove.ensures.kept ∙ c.loop-name.invariant.kept;
+  plan = c.in_ok-remove.ensures.plan ∙ c.loop-name.invariant.plan;
 }
 
 pub returns-clause-ok : goal.returns-clause-ok

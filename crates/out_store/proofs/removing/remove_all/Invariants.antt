@@ -7,4 +7,5 @@ invariant-loop-name g l = record {
   content : g.S.Store.content l.store ≡ takes_out (take l.name-index l.names) (g.S.Store.content l.initial.store);
   later : g.S.Store.faults l.initial.store ≤ g.S.Store.faults l.store;
   kept : g.S.Store.kept l.store ≡ g.S.Store.kept l.initial.store;
+  plan : g.S.Store.plan l.store ≡ g.S.Store.plan l.initial.store;
 }
