@@ -47,3 +47,16 @@ sound (Run words environment moment ∷ earlier) start end runs lost none (befor
     let clean_all = subst (AreClean runs) more clean in
     subst (λ commands. Holds runs lost (Run words environment moment ∷ earlier) commands end.store.contents) (sym more)
     (holds_run runs lost words environment moment earlier before end ran is clean_all (sound earlier start before runs lost none lead stands clean_all.0))
+
+-- steps leave the plans of calls that are to fail
+pub same_plans : (made : List ReplayStep) (start end : State) → Lead made start end → (end.store.plan.failing ≡ start.store.plan.failing) × (end.workspace.plan.failing ≡ start.workspace.plan.failing)
+same_plans [] start end lead = (ap (λ s. s.store.plan.failing) lead, ap (λ s. s.workspace.plan.failing) lead)
+same_plans (Edit path bytes ∷ earlier) start end (before, lead, next) =
+    let same = same_plans earlier start before lead in
+    (ap (λ s. s.store.plan.failing) next ∙ same.0, ap (λ s. s.workspace.plan.failing) next ∙ same.1)
+same_plans (Lose name ∷ earlier) start end (before, lead, next) =
+    let same = same_plans earlier start before lead in
+    (ap (λ s. s.store.plan.failing) next ∙ same.0, ap (λ s. s.workspace.plan.failing) next ∙ same.1)
+same_plans (Run words environment moment ∷ earlier) start end (before, lead, (ran, more, is)) =
+    let same = same_plans earlier start before lead in
+    (is.same_store.plan ∙ same.0, is.same_workspace.plan ∙ same.1)

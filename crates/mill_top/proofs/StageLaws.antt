@@ -11,7 +11,7 @@ use Rattle.mill_top.specs.Replays.{IsEnded, IsRan, IsReplay, Lead, takes_of, ans
 use Rattle.mill_top.specs.Stages.{state_of, IsAsBefore, HasRunTo, Makes, MakesWhole, Reached, ReachedWhole}
 use Rattle.std.proofs.lemmas.List.{append-nil, reverse-append, reverse-reverse, take_more, take_all, take-append-drop}
 use Rattle.mill_top.proofs.LossLaws.{stands_empty}
-use Rattle.mill_top.proofs.ReplayLaws.{sound}
+use Rattle.mill_top.proofs.ReplayLaws.{sound, same_plans}
 use Rattle.mill_top.proofs.WalkLaws.{reverse-cons}
 
 -- what holds of a result that is `Ok`, and what follows from it
@@ -98,6 +98,8 @@ owed script store workspace made rest stage end all reached replies = record {
   lead = reached.lead;
   takes = reached.takes;
   replies = replies;
+  store_plan = (same_plans made (state_of store workspace []) (state_of stage.store stage.workspace reached.commands) reached.lead).0;
+  workspace_plan = (same_plans made (state_of store workspace []) (state_of stage.store stage.workspace reached.commands) reached.lead).1;
   sound = λ runs lost. sound made (state_of store workspace []) (state_of stage.store stage.workspace reached.commands) runs lost refl reached.lead;
   sound_from_empty = λ empty. sound made (state_of store workspace []) (state_of stage.store stage.workspace reached.commands) [] [] refl reached.lead (stands_empty store.contents empty);
 }

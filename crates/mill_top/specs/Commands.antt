@@ -2,6 +2,7 @@
 use Rattle.std.specs.Prelude.{◌≡◌, ◌≤◌, ◌⊎◌, ℕ, List, ◌++◌, Option, IfSome, IsNone}
 use Rattle.io_traits.specs.Causes.{Rose}
 use Rattle.io_traits.specs.Files.{Files}
+use Rattle.io_traits.specs.Planned.{FailingCalls}
 use Rattle.mill_top.specs.declared.recorded.Record.{Record}
 use Rattle.mill_top.specs.declared.reply.Reply.{Reply}
 use Rattle.mill_top.specs.declared.takes.Found.{Found}
@@ -11,14 +12,16 @@ use Rattle.mill_top.specs.Replies.{printed, Shown}
 use Rattle.mill_top.specs.Standing.{StandsIn}
 use Rattle.mill_top.specs.Words.{explains}
 
--- a device: what it tells of its content, how many faults it has counted, and the pair of both that it keeps
+-- a device: what it tells of its content, how many faults it has counted, the pair of both that it keeps, and the calls
+-- of it that are planned to fail
 pub record Device (T : Type 0) : Type 0 where
   pub content : T
   pub faults : ℕ
   pub kept : T × ℕ
+  pub plan : FailingCalls
 
-abbrev pub device : {T : Type 0} → T → ℕ → T × ℕ → Device T
-device content faults kept = record { content = content; faults = faults; kept = kept }
+abbrev pub device : {T : Type 0} → T → ℕ → T × ℕ → FailingCalls → Device T
+device content faults kept plan = record { content = content; faults = faults; kept = kept; plan = plan }
 
 -- the devices of a command; the content of a sink is what it has got
 pub record Devices : Type 0 where
@@ -39,10 +42,12 @@ pub record Command : Type 0 where
 abbrev pub command : Option Record → List (List ℕ × Found) → Reply → ℕ → Command
 command inputs takes reply status = record { inputs = inputs; takes = takes; reply = reply; status = status }
 
--- a device's count didn't fall, and the pair that it keeps is as it was, or its content and count at entry
-pub record IsCounted {T : Type 0} (old new : Device T) : Type 0 where
+-- The device that was handed in: its count didn't fall, the pair that it keeps is as it was, or its content and count at
+-- entry, and the same calls of it are planned to fail.
+pub record IsSameDevice {T : Type 0} (old new : Device T) : Type 0 where
   pub later : old.faults ≤ new.faults
   pub kept : (new.kept ≡ old.kept) ⊎ (new.kept ≡ (old.content, old.faults))
+  pub plan : new.plan ≡ old.plan
 
 -- A command of these words, environment and moment ended so, and led from these devices to those.
 pub record IsCommand (words : List (List ℕ)) (environment : List (List ℕ × List ℕ)) (moment : ℕ) (old new : Devices) (command : Command) : Type 0 where
@@ -65,8 +70,9 @@ pub record IsCommand (words : List (List ℕ)) (environment : List (List ℕ × 
   -- Afterwards it stands for these and the runs of this command, after a fault too.
   pub stands : (runs : List Run) (lost : List (List ℕ)) → StandsIn old.store.content runs lost
       → IfSome command.inputs (λ inputs. Clean (all_texts inputs runs)) → StandsIn new.store.content (runs ++ runs_in command.inputs command.takes) lost
-  -- The workspace tells what it told. No count fell, and what each device keeps is as it was or as the device was handed in.
+  -- The workspace tells what it told. No count fell, what each device keeps is as it was or as the device was handed in,
+  -- and each has its plan.
   pub workspace : new.workspace.content ≡ old.workspace.content
-  pub store_counted : IsCounted old.store new.store
-  pub workspace_counted : IsCounted old.workspace new.workspace
-  pub sink_counted : IsCounted old.sink new.sink
+  pub same_store : IsSameDevice old.store new.store
+  pub same_workspace : IsSameDevice old.workspace new.workspace
+  pub same_sink : IsSameDevice old.sink new.sink

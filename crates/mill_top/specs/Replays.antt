@@ -20,17 +20,17 @@ use Rattle.mill_top.specs.Standing.{StandsIn}
 -- ---- devices in memory, which tell all that they hold
 
 abbrev pub device_of_sink : MemSink → Device (Option (List ℕ))
-device_of_sink sink = device (Some sink.bytes.items) (sink_faults sink.plan sink.wants) (Some sink.kept.0, sink.kept.1)
+device_of_sink sink = device (Some sink.bytes.items) (sink_faults sink.plan sink.wants) (Some sink.kept.0, sink.kept.1) sink.plan.failing
 
--- a sink that has taken nothing, and that no write has failed
+-- a sink that has taken nothing, and of which no write failed or is planned to fail
 abbrev pub first_sink : Device (Option (List ℕ))
-first_sink = device (Some []) 0 (Some [], 0)
+first_sink = device (Some []) 0 (Some [], 0) []
 
 abbrev pub devices_of : MemStore → MemWorkspace → Device (Option (List ℕ)) → Devices
 devices_of store workspace sink =
     devices
-    (device (Some store.contents) store.plan.faults (Some store.kept.0, store.kept.1))
-    (device (Some workspace.contents) workspace.plan.faults (Some workspace.kept.0, workspace.kept.1))
+    (device (Some store.contents) store.plan.faults (Some store.kept.0, store.kept.1) store.plan.failing)
+    (device (Some workspace.contents) workspace.plan.faults (Some workspace.kept.0, workspace.kept.1) workspace.plan.failing)
     sink
 
 -- ---- steps
@@ -111,8 +111,8 @@ pub record IsEnded (rest : List ReplayStep) (commands : List Ran) (replies : Lis
   pub in_order : replies ≡ reverse (map answered commands)
   pub whole : AllByRecursion IsWhole commands
 
--- Steps from the front of the script were made over the devices, and the commands among them gave these takes. From an
--- empty folder nothing is assumed of it.
+-- Steps from the front of the script were made over the devices, and the commands among them gave these takes. The same
+-- calls of both devices are planned to fail as before. From an empty folder nothing is assumed of it.
 pub record IsReplay (script : List ReplayStep) (store : MemStore) (workspace : MemWorkspace) (replayed : Replayed) : Type 0 where
   pub made : List ReplayStep
   pub rest : List ReplayStep
@@ -121,5 +121,7 @@ pub record IsReplay (script : List ReplayStep) (store : MemStore) (workspace : M
   pub lead : Lead made (record { store = store; workspace = workspace; commands = [] }) (record { store = replayed.store; workspace = replayed.workspace; commands = commands })
   pub takes : replayed.takes ≡ reverse (map takes_of commands)
   pub replies : IfOk replayed.end (IsEnded rest commands)
+  pub store_plan : replayed.store.plan.failing ≡ store.plan.failing
+  pub workspace_plan : replayed.workspace.plan.failing ≡ workspace.plan.failing
   pub sound : (runs : List inputs.Run) (lost : List (List ℕ)) → IsSound made commands store.contents replayed.store.contents runs lost
   pub sound_from_empty : store.contents ≡ [] → AreClean [] commands → AreFromScratch commands × StandsIn (Some replayed.store.contents) (runs_after [] commands) (lost_after [] made)

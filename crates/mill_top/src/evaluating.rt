@@ -108,6 +108,7 @@ fn take_file<S: Store>(
     ensures step { IsFileStep inputs.now file given out.old.numbers out.new.numbers (S.content out.old.store) (S.content out.new.store) result takes.old takes.new }
     ensures cause { HasCause (S.faults out.old.store) (S.faults out.new.store) result }
     ensures kept { S.kept out.new.store ≡ S.kept out.old.store }
+    ensures plan { S.plan out.new.store ≡ S.plan out.old.store }
 {
     let job = prepare(alloc, inputs, file, given)?;
     take(alloc, &job, out, takes)
@@ -129,6 +130,7 @@ fn take_all<S: Store>(
     ensures err { OnErr result (IsStopped inputs.now plan.now out.old.numbers out.new.numbers (S.content out.old.store) (S.content out.new.store) takes.new) }
     ensures cause { HasCause (S.faults out.old.store) (S.faults out.new.store) result }
     ensures kept { S.kept out.new.store ≡ S.kept out.old.store }
+    ensures plan { S.plan out.new.store ≡ S.plan out.old.store }
 {
     let mut given = None;
     for file in plan {
@@ -153,6 +155,7 @@ pub fn evaluate<S: Store>(
     ensures stands { (runs : List Run) (lost : List (List ℕ)) → StandsIn (S.content out.old.store) runs lost → Clean (all_texts inputs.now runs) → StandsIn (S.content out.new.store) (runs ++ runs_of inputs.now result.takes) lost }
     ensures later { S.faults out.old.store ≤ S.faults out.new.store }
     ensures kept { S.kept out.new.store ≡ S.kept out.old.store }
+    ensures plan { S.plan out.new.store ≡ S.plan out.old.store }
 {
     let mut takes = Takes::none(alloc);
     match take_all(alloc, inputs, planned, out, &mut takes) {

@@ -19,6 +19,7 @@ fn add_file<W: Workspace>(
     ensures content { W.content workspace.new ≡ W.content workspace.old }
     ensures cause { HasCause (W.faults workspace.old) (W.faults workspace.new) result }
     ensures kept { W.kept workspace.new ≡ W.kept workspace.old }
+    ensures plan { W.plan workspace.new ≡ W.plan workspace.old }
 {
     match workspace.read(name)? {
         Some(bytes) => {
@@ -47,6 +48,7 @@ pub fn read_files<W: Workspace>(alloc: Global, workspace: &mut W) -> Result<Tree
     ensures content { W.content workspace.new ≡ W.content workspace.old }
     ensures cause { HasCause (W.faults workspace.old) (W.faults workspace.new) result }
     ensures kept { W.kept workspace.new ≡ W.kept workspace.old }
+    ensures plan { W.plan workspace.new ≡ W.plan workspace.old }
 {
     let names = workspace.list()?;
     let mut files = Vec::new(alloc);

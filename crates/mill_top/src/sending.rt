@@ -13,6 +13,7 @@ pub fn send<K: Sink>(sink: &mut K, bytes: &[u8]) -> Result<(), IoFault>
     ensures never_memory { ¬ IsErrOf result IoFault.Memory }
     ensures cause { HasCause (K.faults sink.old) (K.faults sink.new) result }
     ensures kept { K.kept sink.new ≡ K.kept sink.old }
+    ensures plan { K.plan sink.new ≡ K.plan sink.old }
 {
     let mut at = 0;
     while at < bytes.len() {

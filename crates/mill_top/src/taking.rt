@@ -86,6 +86,7 @@ fn keep<S: Store>(
     ensures rows { LeavesStanding out.old.numbers out.new.numbers (S.content out.old.store) (S.content out.new.store) (row_of (finished_by job.now.task job.now.input outcome) ∷ []) }
     ensures cause { HasCause (S.faults out.old.store) (S.faults out.new.store) result }
     ensures kept { S.kept out.new.store ≡ S.kept out.old.store }
+    ensures plan { S.plan out.new.store ≡ S.plan out.old.store }
 {
     let finished = finish(alloc, job, outcome)?;
     out.publish(&finished)
@@ -107,6 +108,7 @@ fn run_task<S: Store>(
     ensures step { IsStep job.now.task job.now.input (Outcome.Returns (result_of job.now.body job.now.given) []) out.old.numbers out.new.numbers (S.content out.old.store) (S.content out.new.store) result takes.old takes.new }
     ensures cause { HasCause (S.faults out.old.store) (S.faults out.new.store) result }
     ensures kept { S.kept out.new.store ≡ S.kept out.old.store }
+    ensures plan { S.plan out.new.store ≡ S.plan out.old.store }
 {
     takes.push(job.task.copy()?, found)?;
     let outcome = run(alloc, job.body, job.given);
@@ -142,6 +144,7 @@ fn take_over<S: Store>(
     ensures step { IsStep job.now.task job.now.input (Outcome.Returns (result_of job.now.body job.now.given) []) out.old.numbers out.new.numbers (S.content out.old.store) (S.content out.new.store) result takes.old takes.new }
     ensures cause { HasCause (S.faults out.old.store) (S.faults out.new.store) result }
     ensures kept { S.kept out.new.store ≡ S.kept out.old.store }
+    ensures plan { S.plan out.new.store ≡ S.plan out.old.store }
 {
     if entry.input == job.input {
         match int_of(&entry.value) {
@@ -166,6 +169,7 @@ pub fn take<S: Store>(
     ensures step { IsStep job.now.task job.now.input (Outcome.Returns (result_of job.now.body job.now.given) []) out.old.numbers out.new.numbers (S.content out.old.store) (S.content out.new.store) result takes.old takes.new }
     ensures cause { HasCause (S.faults out.old.store) (S.faults out.new.store) result }
     ensures kept { S.kept out.new.store ≡ S.kept out.old.store }
+    ensures plan { S.plan out.new.store ≡ S.plan out.old.store }
 {
     match out.entry(&job.task)? {
         Some(entry) => take_over(alloc, job, &entry, out, takes),

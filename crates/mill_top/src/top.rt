@@ -103,6 +103,7 @@ fn taken_of_loaded<S: Store>(alloc: Global, inputs: &Record, task: &Text, out: &
     ensures stands { (runs : List Run) (lost : List (List ℕ)) → StandsIn (S.content out.old.store) runs lost → Clean (all_texts inputs.now runs) → StandsIn (S.content out.new.store) (runs ++ runs_of inputs.now result.takes) lost }
     ensures later { S.faults out.old.store ≤ S.faults out.new.store }
     ensures kept { S.kept out.new.store ≡ S.kept out.old.store }
+    ensures plan { S.plan out.new.store ≡ S.plan out.old.store }
 {
     match choose(alloc, inputs, task) {
         Ok(plan) => evaluate(alloc, inputs, task, plan.as_slice(), out),
@@ -117,6 +118,7 @@ fn taken<S: Store>(alloc: Global, inputs: &Record, task: &Text, out: &mut Out<S>
     ensures stands { (runs : List Run) (lost : List (List ℕ)) → StandsIn (S.content out.old.store) runs lost → Clean (all_texts inputs.now runs) → StandsIn (S.content out.new.store) (runs ++ runs_of inputs.now result.takes) lost }
     ensures later { S.faults out.old.store ≤ S.faults out.new.store }
     ensures kept { S.kept out.new.store ≡ S.kept out.old.store }
+    ensures plan { S.plan out.new.store ≡ S.plan out.old.store }
 {
     match load(alloc, &inputs.files) {
         Ok(_program) => taken_of_loaded(alloc, inputs, task, out),
@@ -132,6 +134,7 @@ fn judge<S: Store>(alloc: Global, inputs: Record, task: &Text, mut out: Out<S>) 
     ensures stands { (runs : List Run) (lost : List (List ℕ)) → StandsIn (S.content out.store) runs lost → Clean (all_texts inputs runs) → StandsIn (S.content result.store) (runs ++ runs_of inputs result.takes) lost }
     ensures later { S.faults out.store ≤ S.faults result.store }
     ensures kept { S.kept result.store ≡ S.kept out.store }
+    ensures plan { S.plan result.store ≡ S.plan out.store }
 {
     let Taken { reply, takes } = taken(alloc, &inputs, task, &mut out);
     Answer {
@@ -153,6 +156,7 @@ fn read_record<W: Workspace>(
     ensures content { W.content workspace.new ≡ W.content workspace.old }
     ensures cause { HasCause (W.faults workspace.old) (W.faults workspace.new) result }
     ensures kept { W.kept workspace.new ≡ W.kept workspace.old }
+    ensures plan { W.plan workspace.new ≡ W.plan workspace.old }
 {
     let files = read_files(alloc, workspace)?;
     Ok(Record {
@@ -205,6 +209,8 @@ fn answer_opened<S: Store, W: Workspace>(
     ensures workspace_later { W.faults workspace.old ≤ W.faults workspace.new }
     ensures kept_store { S.kept result.store ≡ S.kept out.store }
     ensures kept_workspace { W.kept workspace.new ≡ W.kept workspace.old }
+    ensures plan_store { S.plan result.store ≡ S.plan out.store }
+    ensures plan_workspace { W.plan workspace.new ≡ W.plan workspace.old }
 {
     match read_record(alloc, words, environment, moment, workspace) {
         Ok(inputs) => judge(alloc, inputs, task, out),
@@ -229,6 +235,8 @@ fn answer_words<S: Store, W: Workspace>(
     ensures workspace_later { W.faults workspace.old ≤ W.faults workspace.new }
     ensures kept_store { S.kept result.store ≡ S.kept store }
     ensures kept_workspace { W.kept workspace.new ≡ W.kept workspace.old }
+    ensures plan_store { S.plan result.store ≡ S.plan store }
+    ensures plan_workspace { W.plan workspace.new ≡ W.plan workspace.old }
 {
     let Some(task) = asked(words) else {
         return unread(alloc, Reply::WordsNotBuilt, store);
@@ -244,6 +252,7 @@ fn send_all<K: Sink>(sink: &mut K, text: &[u8], status: u8) -> u8
     ensures sent { ((result ≡ status) × Got (K.got sink.old) (K.got sink.new) text.now) ⊎ ((result ≡ 7) × Rose (K.faults sink.old) (K.faults sink.new) × ((n : ℕ) × Got (K.got sink.old) (K.got sink.new) (take n text.now))) }
     ensures later { K.faults sink.old ≤ K.faults sink.new }
     ensures kept { K.kept sink.new ≡ K.kept sink.old }
+    ensures plan { K.plan sink.new ≡ K.plan sink.old }
 {
     match send(sink, text) {
         Ok(()) => status,
@@ -266,6 +275,7 @@ fn show<K: Sink>(
     ensures fault { result.0 ≡ 7 → Rose (K.faults sink.old) (K.faults sink.new) }
     ensures later { K.faults sink.old ≤ K.faults sink.new }
     ensures kept { K.kept sink.new ≡ K.kept sink.old }
+    ensures plan { K.plan sink.new ≡ K.plan sink.old }
 {
     match printed(alloc, explains, takes, &reply) {
         Ok(text) => (send_all(sink, text.as_slice(), reply.status()), reply),
@@ -291,6 +301,7 @@ pub fn refuse<K: Sink>(alloc: Global, mut sink: K, reply: Reply) -> Refused<K>
     ensures sink_fault { result.status ≡ 7 → Rose (K.faults sink) (K.faults result.sink) }
     ensures later { K.faults sink ≤ K.faults result.sink }
     ensures kept { K.kept result.sink ≡ K.kept sink }
+    ensures plan { K.plan result.sink ≡ K.plan sink }
 {
     let (status, reply) = show(alloc, &mut sink, false, &Takes::none(alloc), reply);
     Refused {
@@ -323,13 +334,13 @@ pub fn mill_one<S: Store, W: Workspace, K: Sink>(
 ) -> Told<S, W, K>
     ensures { IsCommand words.now environment.now moment
         (devices
-        (device (S.content store) (S.faults store) (S.kept store))
-        (device (W.content workspace) (W.faults workspace) (W.kept workspace))
-        (device (K.got sink) (K.faults sink) (K.kept sink)))
+        (device (S.content store) (S.faults store) (S.kept store) (S.plan store))
+        (device (W.content workspace) (W.faults workspace) (W.kept workspace) (W.plan workspace))
+        (device (K.got sink) (K.faults sink) (K.kept sink) (K.plan sink)))
         (devices
-        (device (S.content result.store) (S.faults result.store) (S.kept result.store))
-        (device (W.content result.workspace) (W.faults result.workspace) (W.kept result.workspace))
-        (device (K.got result.sink) (K.faults result.sink) (K.kept result.sink)))
+        (device (S.content result.store) (S.faults result.store) (S.kept result.store) (S.plan result.store))
+        (device (W.content result.workspace) (W.faults result.workspace) (W.kept result.workspace) (W.plan result.workspace))
+        (device (K.got result.sink) (K.faults result.sink) (K.kept result.sink) (K.plan result.sink)))
         (command result.inputs result.takes result.reply result.status) }
 {
     let Answer {

@@ -28,4 +28,5 @@ loop-file-preserved g c = record {
   fits = subst (FitsSigned w32) (sym (to_z-of_z w32 c.in_ok-take_file.field-0 c.in_ok-take_file.ensures.fits)) c.in_ok-take_file.ensures.fits;
   later = omega (arith, c.in_ok-take_file.ensures.cause.later, c.loop-file.invariant.later);
   kept = c.in_ok-take_file.ensures.kept ∙ c.loop-file.invariant.kept;
+  plan = c.in_ok-take_file.ensures.plan ∙ c.loop-file.invariant.plan;
 }

@@ -9,4 +9,5 @@ invariant-loop-file g l = record {
   fits : IfSome l.given (FitsSigned w32);
   later : g.S.Store.faults l.initial.out.store ≤ g.S.Store.faults l.out.store;
   kept : g.S.Store.kept l.out.store ≡ g.S.Store.kept l.initial.out.store;
+  plan : g.S.Store.plan l.out.store ≡ g.S.Store.plan l.initial.out.store;
 }

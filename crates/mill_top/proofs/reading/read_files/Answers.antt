@@ -20,6 +20,7 @@ loop-name-preserved g c =
       content = c.in_ok-add_file.ensures.content ∙ c.loop-name.invariant.content;
       later = omega (arith, c.in_ok-add_file.ensures.cause.later, c.loop-name.invariant.later);
       kept = c.in_ok-add_file.ensures.kept ∙ c.loop-name.invariant.kept;
+      plan = c.in_ok-add_file.ensures.plan ∙ c.loop-name.invariant.plan;
       order = rw added.2 (order_more c.loop-name.files.items added.0 x (drop (i + 1) listed) (subst (λ rest. IsInOrder (names c.loop-name.files.items ++ rest)) left c.loop-name.invariant.order));
       files = rw added.2 (told_more told listed c.loop-name.files.items i x added.0 up within c.name-item.is all found c.loop-name.invariant.files);
     }

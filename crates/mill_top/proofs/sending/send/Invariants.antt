@@ -8,6 +8,7 @@ invariant-loop-at g l = record {
   got : Got (g.K.Sink.got l.initial.sink) (g.K.Sink.got l.sink) (take l.at l.bytes);
   later : g.K.Sink.faults l.initial.sink ≤ g.K.Sink.faults l.sink;
   kept : g.K.Sink.kept l.sink ≡ g.K.Sink.kept l.initial.sink;
+  plan : g.K.Sink.plan l.sink ≡ g.K.Sink.plan l.initial.sink;
 }
 
 abbrev pub decreases-loop-at : goal.decreases-loop-at

@@ -27,7 +27,7 @@ returns g c =
       stands = λ runs lost stands clean.
           stands_in words inputs before now w v old new own takes runs lost c.answer_words-reply.ensures.unread (c.answer_words-reply.ensures.stands runs lost) stands clean;
       workspace = c.answer_words-reply.ensures.workspace;
-      store_counted = record { later = c.answer_words-reply.ensures.store_later; kept = inl c.answer_words-reply.ensures.kept_store };
-      workspace_counted = record { later = c.answer_words-reply.ensures.workspace_later; kept = inl c.answer_words-reply.ensures.kept_workspace };
-      sink_counted = record { later = c.show-status.ensures.later; kept = inl c.show-status.ensures.kept };
+      same_store = record { later = c.answer_words-reply.ensures.store_later; kept = inl c.answer_words-reply.ensures.kept_store; plan = c.answer_words-reply.ensures.plan_store };
+      same_workspace = record { later = c.answer_words-reply.ensures.workspace_later; kept = inl c.answer_words-reply.ensures.kept_workspace; plan = c.answer_words-reply.ensures.plan_workspace };
+      same_sink = record { later = c.show-status.ensures.later; kept = inl c.show-status.ensures.kept; plan = c.show-status.ensures.plan };
     }
