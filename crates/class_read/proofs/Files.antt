@@ -8,7 +8,7 @@ use Rattle.class_model.specs.declared.class_file.Class.{Class}
 use Rattle.class_model.specs.Constants.{IsPool}
 use Rattle.class_model.specs.Shape.{Shaped}
 use Rattle.class_model.specs.Spelling as spelling
-use Rattle.class_text.specs.Reading.{Fault, cut_short, bad_tag, bad_text, bad_index, bad_magic, bad_major, bad_attribute, second_attribute, code_missing, bytes_left, Reading, place, IsBytes}
+use Rattle.class_text.specs.Reading.{Fault, cut_short, bad_tag, bad_text, bad_index, astray, bad_magic, bad_major, bad_attribute, second_attribute, code_missing, bytes_left, Reading, place, IsBytes}
 use Rattle.class_text.specs.Readers.{u2_at, u4_at}
 use Rattle.class_text.specs.Pool.{pool_at}
 use Rattle.class_text.specs.Classes.{minor_at, major_at, behind_pool_at, class_at_front, class_of}
@@ -87,8 +87,9 @@ never bytes c (BadMajor v) ok f = absurd (let h = sym f ∙ ok in cc)
 never bytes c (CutShort at) ok f = absurd (let h = sym f ∙ ok in cc)
 never bytes c (BadTag at tag) ok f = absurd (let h = sym f ∙ ok in cc)
 never bytes c (BadUtf8 at) ok f = absurd (let h = sym f ∙ ok in cc)
-never bytes c (BadIndex at) ok f = absurd (let h = sym f ∙ ok in cc)
-never bytes c (BadAttribute at) ok f = absurd (let h = sym f ∙ ok in cc)
+never bytes c (BadIndex at) ok (inl f) = absurd (let h = sym f ∙ ok in cc)
+never bytes c (BadIndex at) ok (inr (numbers, f)) = absurd (let h = sym f ∙ ok in cc)
+never bytes c (BadAttribute at) ok (why, f) = absurd (let h = sym f ∙ ok in cc)
 never bytes c (SecondAttribute at) ok f = absurd (let h = sym f ∙ ok in cc)
 never bytes c (CodeMissing at) ok f = absurd (let h = sym f ∙ ok in cc)
 never bytes c (BytesLeft at) ok f = absurd (let h = sym f ∙ ok in cc)
@@ -121,8 +122,9 @@ said P (BadMajor version) reading on is = on (bad_major version) is
 said P (CutShort at) reading on is = on (cut_short at) is
 said P (BadTag at tag) reading on is = on (bad_tag at tag) is
 said P (BadUtf8 at) reading on is = on (bad_text at) is
-said P (BadIndex at) reading on is = on (bad_index at) is
-said P (BadAttribute at) reading on is = on (bad_attribute at) is
+said P (BadIndex at) reading on (inl is) = inl (on (bad_index at) is)
+said P (BadIndex at) reading on (inr (numbers, is)) = inr (numbers, on (astray at numbers) is)
+said P (BadAttribute at) reading on (why, is) = (why, on (bad_attribute at why) is)
 said P (SecondAttribute at) reading on is = on (second_attribute at) is
 said P (CodeMissing at) reading on is = on (code_missing at) is
 said P (BytesLeft at) reading on is = on (bytes_left at) is

@@ -1,5 +1,6 @@
 pub mod Lists
 pub mod Depths
+pub mod Contents
 pub mod Firsts
 pub mod Files
 pub mod Entered

@@ -1,6 +1,6 @@
 -- Lists that are read item by item.
-use Rattle.std.proofs.Common.{◌≡◌, ℕ, zero, suc, ◌+◌, ◌-◌, ◌<◌, ◌≤◌, List, [], ◌∷◌, ◌++◌, Result, Ok, Err, refl, sym, ap, subst, ◌∙◌, append_assoc, append-nil, arith}
-use Rattle.class_text.specs.Reading.{Fault, cut_short, bad_tag, bad_text, bad_index, bad_magic, bad_major, bad_attribute, second_attribute, code_missing, bytes_left, Reading, ◌>>=◌}
+use Rattle.std.proofs.Common.{◌≡◌, ℕ, zero, suc, ◌+◌, ◌-◌, ◌<◌, ◌≤◌, List, [], ◌∷◌, ◌++◌, Result, Ok, Err, refl, sym, ap, subst, ◌∙◌, append_assoc, append-nil, arith, inl, inr}
+use Rattle.class_text.specs.Reading.{Fault, cut_short, bad_tag, bad_text, bad_index, astray, bad_magic, bad_major, bad_attribute, second_attribute, code_missing, bytes_left, Reading, ◌>>=◌}
 use Rattle.class_text.specs.Readers.{Reader, many_after}
 use Rattle.class_read.specs.declared.class_fault.ClassFault.{ClassFault}
 use Rattle.class_read.specs.declared.class_fault.ClassFault.TheVariants.{BadMagic, BadMajor, CutShort, BadTag, BadUtf8, BadIndex, BadAttribute, SecondAttribute, CodeMissing, BytesLeft, Memory}
@@ -13,8 +13,9 @@ fails_via (BadMajor version) r s on is = on (bad_major version) is
 fails_via (CutShort at) r s on is = on (cut_short at) is
 fails_via (BadTag at tag) r s on is = on (bad_tag at tag) is
 fails_via (BadUtf8 at) r s on is = on (bad_text at) is
-fails_via (BadIndex at) r s on is = on (bad_index at) is
-fails_via (BadAttribute at) r s on is = on (bad_attribute at) is
+fails_via (BadIndex at) r s on (inl is) = inl (on (bad_index at) is)
+fails_via (BadIndex at) r s on (inr (numbers, is)) = inr (numbers, on (astray at numbers) is)
+fails_via (BadAttribute at) r s on (why, is) = (why, on (bad_attribute at why) is)
 fails_via (SecondAttribute at) r s on is = on (second_attribute at) is
 fails_via (CodeMissing at) r s on is = on (code_missing at) is
 fails_via (BytesLeft at) r s on is = on (bytes_left at) is

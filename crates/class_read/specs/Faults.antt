@@ -1,18 +1,18 @@
 -- What a refusal says of the bytes.
-use Rattle.std.specs.Prelude.{◌≡◌, ◌++◌, List, Result, Ok, Err}
-use Rattle.class_text.specs.Reading.{Fault, cut_short, bad_tag, bad_text, bad_index, bad_magic, bad_major, bad_attribute, second_attribute, code_missing, bytes_left, Reading}
+use Rattle.std.specs.Prelude.{◌≡◌, ◌⊎◌, ◌++◌, ℕ, Bool, List, Result, Ok, Err}
+use Rattle.class_text.specs.Reading.{Badness, Fault, cut_short, bad_tag, bad_text, bad_index, astray, bad_magic, bad_major, bad_attribute, second_attribute, code_missing, bytes_left, Reading}
 use Rattle.class_read.specs.declared.class_fault.ClassFault.{ClassFault}
 use Rattle.class_read.specs.declared.class_fault.ClassFault.TheVariants.{BadMagic, BadMajor, CutShort, BadTag, BadUtf8, BadIndex, BadAttribute, SecondAttribute, CodeMissing, BytesLeft, Memory}
 
--- A fact holds of this fault; of a want of memory nothing is said.
+-- A fact holds of this fault, for what was wanted there or for some reason; of a want of memory nothing is said.
 abbrev pub IsOf : (Fault → Type 0) → ClassFault → Type 0
 IsOf P BadMagic = P bad_magic
 IsOf P (BadMajor version) = P (bad_major version)
 IsOf P (CutShort at) = P (cut_short at)
 IsOf P (BadTag at tag) = P (bad_tag at tag)
 IsOf P (BadUtf8 at) = P (bad_text at)
-IsOf P (BadIndex at) = P (bad_index at)
-IsOf P (BadAttribute at) = P (bad_attribute at)
+IsOf P (BadIndex at) = P (bad_index at) ⊎ ((numbers : ℕ → Bool) × P (astray at numbers))
+IsOf P (BadAttribute at) = (why : Badness) × P (bad_attribute at why)
 IsOf P (SecondAttribute at) = P (second_attribute at)
 IsOf P (CodeMissing at) = P (code_missing at)
 IsOf P (BytesLeft at) = P (bytes_left at)

@@ -1,6 +1,6 @@
 //! Attributes (JVMS 4.7).
 
-ghost use Rattle.std.specs.Prelude.{◌≡◌, ◌||◌, ◌==◌, [], List, bytes_eq, codes, Ok, Err};
+ghost use Rattle.std.specs.Prelude.{◌≡◌, ◌||◌, ◌==◌, ℕ, [], List, bytes_eq, codes, Ok, Err};
 ghost use Rattle.class_model.specs.declared.attribute_forms.Attribute.{Attribute};
 ghost use Rattle.class_text.specs.Reading.{Reading};
 ghost use Rattle.class_text.specs.Readers.{index_at, many_at, many_after, counted_at, whole};
@@ -274,7 +274,7 @@ fn whole<'a>(
     rest: &'a [u8],
     read: Result<(Attribute, &[u8]), ClassFault>,
 ) -> Result<(Attribute, &'a [u8]), ClassFault>
-    ensures { (reading : Reading Attribute) → Gives (λ r. (r.0, r.1.now)) read.entry reading → Gives (λ r. (r.0, r.1.now)) result (whole at rest.now reading) }
+    ensures { (reading : Reading Attribute) (stop : ℕ) → Gives (λ r. (r.0, r.1.now)) read.entry reading → Gives (λ r. (r.0, r.1.now)) result (whole at stop rest.now reading) }
 {
     match read {
         Ok((attribute, left)) => {

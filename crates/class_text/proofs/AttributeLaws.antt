@@ -114,7 +114,7 @@ another a b text e f n =
     absurd (let h : true ≡ false = sym ((bytes_eq-Decides a b).1 (one ∙ sym two)) ∙ n in cc)
 
 module _ (pool : Pool) (few : IsFew pool) (name : ℕ) (named : is_text pool name ≡ true) where
-  abbrev text : List ℕ
+  abbrev pub text : List ℕ
   text = text_of pool name
 
   pub is_named_by : (a : List ℕ) → is_named pool a name ≡ bytes_eq a text
@@ -139,7 +139,7 @@ module _ (pool : Pool) (few : IsFew pool) (name : ℕ) (named : is_text pool nam
   annotations_known in_code e n = absurd (n refl)
 
   -- a known name that isn't the place's own
-  left_known : (a b : List ℕ) → (bytes_eq text a || (bytes_eq text b || false)) ≡ true → bytes_eq a text ≡ false → bytes_eq b text ≡ true
+  pub left_known : (a b : List ℕ) → (bytes_eq text a || (bytes_eq text b || false)) ≡ true → bytes_eq a text ≡ false → bytes_eq b text ≡ true
   left_known a b k o = elim (cases_Bool (bytes_eq text a)) [
     | inl y ↦ absurd (let h : true ≡ false = sym (nat_list_eq_equiv.symm a text ∙ y) ∙ o in cc)
     | inr f ↦ elim (cases_Bool (bytes_eq text b)) [
@@ -148,7 +148,7 @@ module _ (pool : Pool) (few : IsFew pool) (name : ℕ) (named : is_text pool nam
     ]
   ]
 
-  none_left : (a : List ℕ) → (bytes_eq text a || false) ≡ true → bytes_eq a text ≡ false → ⊥
+  pub none_left : (a : List ℕ) → (bytes_eq text a || false) ≡ true → bytes_eq a text ≡ false → ⊥
   none_left a k o = elim (cases_Bool (bytes_eq text a)) [
     | inl y ↦ (let h : true ≡ false = sym (nat_list_eq_equiv.symm a text ∙ y) ∙ o in cc)
     | inr f ↦ (let h : false ≡ true = rw f at k in cc)

@@ -11,7 +11,7 @@ use Rattle.class_model.specs.declared.attribute_forms.Attribute.TheOpen.{Attribu
 use Rattle.class_model.specs.declared.attribute_forms.Bootstrap.{Bootstrap}
 use Rattle.class_model.specs.Attributes.{Place, in_class, in_field, in_method, in_code, is_known, attribute_name}
 use Rattle.class_model.specs.Spelling.{greatest_depth}
-use Rattle.class_text.specs.Reading.{bad_tag, bad_attribute, second_attribute, IsBytes}
+use Rattle.class_text.specs.Reading.{bad_tag, bad_attribute, bad_length, barred_code, too_deep, second_attribute, IsBytes}
 use Rattle.class_text.specs.Readers.{Reader, u1_at, u2_at, u4_at, index_at, many_at, counted_at, run_at, within}
 use Rattle.class_text.specs.Frames.{is_class, type_of, typed_at, frame_type_at, frame_of, with_item_at, with_locals_at, full_at, behind_delta_at, framed_at, frame_at}
 use Rattle.class_text.specs.Elements.{is_text, is_type, is_result, is_value, is_constant_tag, pair_by, note_by, enum_at, tagged_by, element_at, note_at}
@@ -112,7 +112,7 @@ module _ (pool : Pool) (low : ℕ) (value : Reader Element) (values : Inside low
 
 element_inside : (at : ℕ) (pool : Pool) (depth : ℕ) → Inside (suc at) 0 (element_at at pool depth)
 unfolding element_at
-element_inside at pool zero = fail_inside (suc at) 0 (bad_attribute at) (λ end over. over)
+element_inside at pool zero = fail_inside (suc at) 0 (bad_attribute at too_deep) (λ end over. over)
 element_inside at pool (suc depth) =
     less_inside (here_inside (suc at) 1 u1_at (tagged_by (element_at at pool depth) pool) (omega arith) (u1_inside (suc at))
     (λ tag_place up tag. tagged_inside pool (suc tag_place) (element_at at pool depth) (raise_inside (suc at) 0 (suc tag_place) 0 (element_at at pool depth) (omega (arith, up)) (omega arith) (element_inside at pool depth)) tag_place tag (omega arith)))
@@ -176,8 +176,8 @@ module _ (pool : Pool) (name at : ℕ) where
 module _ (pool : Pool) (stand : Place) (barred : Bool) (before : List Attribute) (low : ℕ) where
   judged_inside : (at n : ℕ) → Inside (suc at) 0 (judged pool stand barred before at n)
   judged_inside at n =
-      either_inside (suc at) 0 (is_first (is_known stand) bytes_eq (map (attribute_name pool) before) (text_of pool n)) (λ end bytes. cond (barred && bytes_eq (codes "Code") (text_of pool n)) (Err (bad_attribute at)) (Ok (n, bytes))) (λ end bytes. Err (second_attribute at))
-      (either_inside (suc at) 0 (barred && bytes_eq (codes "Code") (text_of pool n)) (λ end bytes. Err (bad_attribute at)) (λ end bytes. Ok (n, bytes)) (fail_inside (suc at) 0 (bad_attribute at) (λ end over. over)) (give_inside (suc at) n))
+      either_inside (suc at) 0 (is_first (is_known stand) bytes_eq (map (attribute_name pool) before) (text_of pool n)) (λ end bytes. cond (barred && bytes_eq (codes "Code") (text_of pool n)) (Err (bad_attribute at barred_code)) (Ok (n, bytes))) (λ end bytes. Err (second_attribute at))
+      (either_inside (suc at) 0 (barred && bytes_eq (codes "Code") (text_of pool n)) (λ end bytes. Err (bad_attribute at barred_code)) (λ end bytes. Ok (n, bytes)) (fail_inside (suc at) 0 (bad_attribute at barred_code) (λ end over. over)) (give_inside (suc at) n))
       (fail_inside (suc at) 0 (second_attribute at) (λ end over. over))
 
   pub named_inside : Inside low 2 (named_at pool stand barred before)
@@ -197,8 +197,8 @@ code_attributes_inside pool low = counted_inside low (code_attribute_at pool) (�
 code_bytes_inside : (at : ℕ) → Inside (suc at) 0 (code_bytes_at at)
 unfolding code_bytes_at
 code_bytes_inside at =
-    less_inside (then_inside (suc at) 4 u4_at (λ len end bytes. cond (ltb 0 len && leb len 65535) (run_at len end bytes) (Err (bad_attribute at))) (u4_inside (suc at))
-    (λ len. either_inside (suc at) 0 (ltb 0 len && leb len 65535) (run_at len) (λ end bytes. Err (bad_attribute at)) (run_inside len (suc at)) (fail_inside (suc at) 0 (bad_attribute at) (λ end over. over))))
+    less_inside (then_inside (suc at) 4 u4_at (λ len end bytes. cond (ltb 0 len && leb len 65535) (run_at len end bytes) (Err (bad_attribute at (bad_length len)))) (u4_inside (suc at))
+    (λ len. either_inside (suc at) 0 (ltb 0 len && leb len 65535) (run_at len) (λ end bytes. Err (bad_attribute at (bad_length len))) (run_inside len (suc at)) (fail_inside (suc at) 0 (bad_attribute at (bad_length len)) (λ end over. over))))
 
 pub code_inside : (pool : Pool) (name at : ℕ) → Inside (suc at) 0 (code_at pool name at)
 unfolding code_at

@@ -2,6 +2,8 @@
 use Rattle.std.proofs.Common.{◌≡◌, ℕ, zero, suc, eqb, ltb, leb, ◌+◌, ◌-◌, ◌^◌, ◌<◌, ◌≤◌, Bool, true, false, cond, ◌&&◌, ◌∷◌, List, [], length, map, flat_map, codes, bytes_eq, ◌++◌, ◌⊎◌, Ok, Err, refl, sym, ap, subst, append-nil, arith, inl, inr}
 use Rattle.std.specs.Int.{w16, w32, to_be_bytes}
 use Rattle.std.specs.Str.{byte}
+use Rattle.std.proofs.lemmas.Bool.{and_parts, and_cases, ltb-false, leb-false}
+use Rattle.std.proofs.lemmas.Slice.Eq.{bytes_eq-Decides}
 use Rattle.class_model.specs.declared.constant_pool.Pool.{Pool}
 use Rattle.class_model.specs.declared.annotation.Element.{Element, roll-Element}
 use Rattle.class_model.specs.declared.annotation.Element.TheOpen.{Element-F}
@@ -13,7 +15,7 @@ use Rattle.class_model.specs.declared.attribute_forms.Bootstrap.{Bootstrap}
 use Rattle.class_model.specs.Attributes.{Place, in_class, in_field, in_method, in_code, is_known, attribute_name, HasForm, IsCodeAttributes}
 use Rattle.class_model.specs.Spelling as spelling
 use Rattle.class_model.specs.Spelling.{greatest_depth}
-use Rattle.class_text.specs.Reading.{Fault, cut_short, bad_tag, bad_attribute, second_attribute, place}
+use Rattle.class_text.specs.Reading.{Fault, cut_short, bad_tag, bad_attribute, bad_length, barred_code, too_deep, second_attribute, place}
 use Rattle.class_text.specs.Readers.{Reader, u1_at, u2_at, u4_at, index_at, many_at, counted_at, run_at, within}
 use Rattle.class_text.specs.Frames.{is_class, type_of, typed_at, frame_type_at, frame_of, with_item_at, with_locals_at, full_at, behind_delta_at, framed_at, frame_at}
 use Rattle.class_text.specs.Elements.{is_text, is_type, is_result, is_value, is_constant_tag, pair_by, note_by, enum_at, tagged_by, element_at, note_at}
@@ -24,25 +26,35 @@ use Rattle.class_text.proofs.Readers.{Reads, bind}
 use Rattle.class_text.proofs.Numbered.{IsFew}
 use Rattle.class_text.proofs.Parts.{u1_reads, u4_reads}
 use Rattle.class_text.proofs.ElementLaws.{text_reads}
-use Rattle.class_text.proofs.AttributeLaws.{code_contents}
+use Rattle.class_text.proofs.AttributeLaws.{left_known, none_left, code_contents}
 use Rattle.class_text.proofs.FramedLaws.{named_reads, attribute_reads}
 use Rattle.class_text.proofs.CodeLaws.{form_named, code_attributes_read, contents_read, attributes_of}
 use Rattle.class_text.proofs.Steps.{class_type, new_type, not_chop, not_far_item, not_item, not_same, constant_value, class_value, note_value, array_value, not_note, not_class, not_enum, not_constant, judged, handler_of, handler_caught, handler_start, handler_stop, code_made, code_inner, code_table, code_run, code_locals}
-use Rattle.class_text.proofs.Tells.{IsIn, is_in_behind, Tells, TellsBehind, Cuts, Anywhere, give_tells, fail_tells, either_tells, then_tells, made_tells, here_tells, bind_tells, u1_tells, u2_tells, u4_tells, index_tells, many_tells, each_tells, run_tells, within_tells, plain_behind, give_behind, fail_behind, either_behind, bind_behind, here_behind, counted_behind}
+use Rattle.class_text.proofs.Tells.{IsIn, is_in_behind, Tells, TellsBehind, Cuts, Anywhere, Cut, Left, give_tells, fail_tells, either_tells, then_tells, made_tells, here_tells, bind_tells, u1_tells, u2_tells, u4_tells, index_tells, many_tells, each_tells, run_tells, within_tells, plain_behind, give_behind, fail_behind, either_behind, bind_behind, here_behind, counted_behind}
+
+is_same : (a text : List ℕ) → bytes_eq a text ≡ true → text ≡ a
+is_same a text e = sym ((bytes_eq-Decides a text).0 e)
+
+-- a length that code may not have
+outside : (len : ℕ) → (ltb 0 len && leb len 65535) ≡ false → (len ≡ 0) ⊎ (65535 < len)
+outside len isnt = elim (and_cases (ltb 0 len) (leb len 65535) isnt) [
+  | inl low ↦ inl (let none = ltb-false 0 len low in omega (arith, none))
+  | inr high ↦ inr (leb-false len 65535 high)
+]
 
 module _ (pool : Pool) (file : List ℕ) (start : ℕ) where
   abbrev pub Meant : ℕ → Fault → Type 0
   Meant = IsMeantBehind pool file start
 
   pub cuts : Cuts file start Meant
-  cuts end bytes i short = omega (arith, i.ends, short)
+  cuts end bytes i short = record { behind = omega (arith, i.ends, i.low); before = omega (arith, i.ends); short = omega (arith, i.ends, short) }
 
   anywhere : Anywhere file start Meant
   anywhere low high (cut_short at) plain m = absurd cc
   anywhere low high g plain m = m
 
   pub wanted_tells : (wanted : Wanted) → Tells file start Meant (index_at (leads pool wanted))
-  wanted_tells wanted = index_tells file start Meant cuts (leads pool wanted) (λ end at n stood behind astray. record { number = n; wanted = wanted; stands = stood; behind = behind; astray = astray })
+  wanted_tells wanted = index_tells file start Meant cuts (leads pool wanted) (λ end at n stood behind astray. record { number = n; wanted = wanted; asked = refl; stands = stood; behind = behind; astray = astray })
 
   pub number_tells : Tells file start Meant u2_at
   number_tells = u2_tells file start Meant cuts
@@ -143,14 +155,14 @@ module _ (pool : Pool) (file : List ℕ) (start : ℕ) where
         (λ p. either_tells file start Meant (eqb tag (byte "[")) (array_value value) (λ end bytes. Err (bad_tag at tag)) (λ y. made_tells file start Meant (counted_at value) (λ vs. roll-Element (Element-F.Many vs)) (each_tells file start Meant cuts value values))
         (λ q. no_tag at tag stood)))))
 
-  element_tells : (at : ℕ) → IsNameAt pool file start at → (depth : ℕ) → Tells file start Meant (element_at at pool depth)
+  element_tells : (at name : ℕ) → IsNameAt pool file start at name → text_of pool name ≡ codes "RuntimeVisibleAnnotations" → (depth : ℕ) → Tells file start Meant (element_at at pool depth)
   unfolding element_at
-  element_tells at name zero = fail_tells file start Meant (bad_attribute at) (λ end. name)
-  element_tells at name (suc depth) = tagged (tagged_by (element_at at pool depth) pool) (λ place tag stood. tagged_tells (element_at at pool depth) (element_tells at name depth) place tag stood)
+  element_tells at name named text zero = fail_tells file start Meant (bad_attribute at too_deep) (λ end. record { name = name; named = named; reason = text })
+  element_tells at name named text (suc depth) = tagged (tagged_by (element_at at pool depth) pool) (λ place tag stood. tagged_tells (element_at at pool depth) (element_tells at name named text depth) place tag stood)
 
-  annotation_tells : (at : ℕ) → IsNameAt pool file start at → Tells file start Meant (note_at at pool)
+  annotation_tells : (at name : ℕ) → IsNameAt pool file start at name → text_of pool name ≡ codes "RuntimeVisibleAnnotations" → Tells file start Meant (note_at at pool)
   unfolding note_at
-  annotation_tells at name = note_tells (element_at at pool greatest_depth) (element_tells at name greatest_depth)
+  annotation_tells at name named text = note_tells (element_at at pool greatest_depth) (element_tells at name named text greatest_depth)
 
   -- ---- the contents of attributes
 
@@ -180,7 +192,7 @@ module _ (pool : Pool) (file : List ℕ) (start : ℕ) where
         subst (IsIn file start end) same (is_in_behind file start end bytes bytes [] i (sym (append-nil bytes)) (λ k. omega arith));
   }
 
-  module _ (name at : ℕ) (named : IsNameAt pool file start at) where
+  module _ (name at : ℕ) (named : IsNameAt pool file start at name) where
     stack_map_tells : Tells file start Meant (stack_map_at pool name)
     unfolding stack_map_at
     stack_map_tells = made_tells file start Meant (counted_at (frame_at pool)) (λ frames. roll-Attribute (Attribute-F.StackMap name frames)) (each_tells file start Meant cuts (frame_at pool) frame_tells)
@@ -193,15 +205,23 @@ module _ (pool : Pool) (file : List ℕ) (start : ℕ) where
     unfolding bootstraps_at
     bootstraps_tells = made_tells file start Meant (counted_at (bootstrap_at pool)) (λ entries. roll-Attribute (Attribute-F.Bootstrap name entries)) (each_tells file start Meant cuts (bootstrap_at pool) bootstrap_tells)
 
-    annotations_tells : Tells file start Meant (annotations_at pool name at)
+    annotations_tells : text_of pool name ≡ codes "RuntimeVisibleAnnotations" → Tells file start Meant (annotations_at pool name at)
     unfolding annotations_at
-    annotations_tells = made_tells file start Meant (counted_at (note_at at pool)) (λ list. roll-Attribute (Attribute-F.Annotations name list)) (each_tells file start Meant cuts (note_at at pool) (annotation_tells at named))
+    annotations_tells text = made_tells file start Meant (counted_at (note_at at pool)) (λ list. roll-Attribute (Attribute-F.Annotations name list)) (each_tells file start Meant cuts (note_at at pool) (annotation_tells at name named text))
 
     code_content_tells : Tells file start Meant (code_content_at pool name at)
     unfolding code_content_at
     code_content_tells = either_tells file start Meant (bytes_eq (codes "StackMapTable") (text_of pool name)) (stack_map_at pool name) (other_at name) (λ y. stack_map_tells) (λ n. other_tells name)
 
   -- ---- attributes
+
+  module _ (at name : ℕ) (named : IsNameAt pool file start at name) where
+    cut_tells : Cut file start Meant at
+    cut_tells end stop (cut_short p) is within m = record { name = name; named = named; reason = (m, within) }
+    cut_tells end stop g is within m = absurd cc
+
+    left_tells : Left file start Meant at
+    left_tells end from stop over = record { name = name; named = named; reason = over }
 
   abbrev Behind : {A : Type 0} → List ℕ → ℕ → Reader A → Type 0
   Behind = TellsBehind file start Meant
@@ -213,9 +233,9 @@ module _ (pool : Pool) (file : List ℕ) (start : ℕ) where
 
     judged_tells : (n : ℕ) → is_text pool n ≡ true → StandsAt file at (to_be_bytes w16 n) × (start ≤ at) → Behind (text ++ to_be_bytes w16 n) from (judged pool stand barred before at n)
     judged_tells n named k =
-        either_behind file start Meant (text ++ to_be_bytes w16 n) from (is_first (is_known stand) bytes_eq (map (attribute_name pool) before) (text_of pool n)) (λ end bytes. cond (barred && bytes_eq (codes "Code") (text_of pool n)) (Err (bad_attribute at)) (Ok (n, bytes))) (λ end bytes. Err (second_attribute at))
-        (λ y. either_behind file start Meant (text ++ to_be_bytes w16 n) from (barred && bytes_eq (codes "Code") (text_of pool n)) (λ end bytes. Err (bad_attribute at)) (λ end bytes. Ok (n, bytes))
-        (λ c. fail_behind file start Meant (text ++ to_be_bytes w16 n) from (bad_attribute at) (λ end all low. record { name = n; stands = k.0; behind = k.1; text = named })) (λ o. give_behind file start Meant (text ++ to_be_bytes w16 n) from n))
+        either_behind file start Meant (text ++ to_be_bytes w16 n) from (is_first (is_known stand) bytes_eq (map (attribute_name pool) before) (text_of pool n)) (λ end bytes. cond (barred && bytes_eq (codes "Code") (text_of pool n)) (Err (bad_attribute at barred_code)) (Ok (n, bytes))) (λ end bytes. Err (second_attribute at))
+        (λ y. either_behind file start Meant (text ++ to_be_bytes w16 n) from (barred && bytes_eq (codes "Code") (text_of pool n)) (λ end bytes. Err (bad_attribute at barred_code)) (λ end bytes. Ok (n, bytes))
+        (λ c. fail_behind file start Meant (text ++ to_be_bytes w16 n) from (bad_attribute at barred_code) (λ end all low. record { name = n; named = record { stands = k.0; behind = k.1; text = named }; reason = is_same (codes "Code") (text_of pool n) (and_parts barred (bytes_eq (codes "Code") (text_of pool n)) c).1 })) (λ o. give_behind file start Meant (text ++ to_be_bytes w16 n) from n))
         (λ twice. fail_behind file start Meant (text ++ to_be_bytes w16 n) from (second_attribute at) (λ end all low. record { name = n; place = stand; before = before; from = from; text = text; spelled = spelled; stands = all; here = refl; behind = low; twice = twice }))
 
     named_tells : Behind text from (named_at pool stand barred before)
@@ -225,23 +245,24 @@ module _ (pool : Pool) (file : List ℕ) (start : ℕ) where
         (bind_behind file start Meant text from (index_at (is_text pool)) (λ n. is_text pool n ≡ true) (to_be_bytes w16) (judged pool stand barred before at) (text_reads pool few) (plain_behind file start Meant text from (index_at (is_text pool)) (wanted_tells a_text)) judged_tells)
 
     attribute_tells : (IsNamed : ℕ → Type 0) → Reads (named_at pool stand barred before) IsNamed (to_be_bytes w16) → ((name : ℕ) → IsNamed name → is_text pool name ≡ true)
-        → (content : ℕ → ℕ → Reader Attribute) → ((name place : ℕ) → IsNameAt pool file start place → Tells file start Meant (content name place)) → Behind text from (attribute_by content pool stand barred before)
+        → (content : ℕ → ℕ → Reader Attribute) → ((name place : ℕ) → IsNameAt pool file start place name → Tells file start Meant (content name place)) → Behind text from (attribute_by content pool stand barred before)
     unfolding attribute_by
     attribute_tells IsNamed names named content contents =
         here_behind file start Meant text from (λ p. bind (named_at pool stand barred before) (λ name. bind u4_at (λ len. within p len (content name p))))
         (bind_behind file start Meant text from (named_at pool stand barred before) IsNamed (to_be_bytes w16) (λ name. bind u4_at (λ len. within at len (content name at))) names named_tells
-        (λ name p k. let there : IsNameAt pool file start at = record { name = name; stands = k.0; behind = k.1; text = named name p } in
+        (λ name p k. let there : IsNameAt pool file start at name = record { stands = k.0; behind = k.1; text = named name p } in
         plain_behind file start Meant (text ++ to_be_bytes w16 name) from (bind u4_at (λ len. within at len (content name at)))
         (bind_tells file start Meant u4_at (λ n. n < 2 ^ 32) (to_be_bytes w32) (λ len. within at len (content name at)) u4_reads (u4_tells file start Meant cuts)
-        (λ len small. within_tells file start Meant cuts anywhere at len (content name at) small (λ end. there) (contents name at there)))))
+        (λ len small. within_tells file start Meant cuts anywhere at len (content name at) small (cut_tells at name there) (left_tells at name there) (contents name at there)))))
 
   -- ---- code
 
-  code_bytes_tells : (at : ℕ) → IsNameAt pool file start at → Tells file start Meant (code_bytes_at at)
+  code_bytes_tells : (at name : ℕ) → IsNameAt pool file start at name → text_of pool name ≡ codes "Code" → Tells file start Meant (code_bytes_at at)
   unfolding code_bytes_at
-  code_bytes_tells at name =
-      bind_tells file start Meant u4_at (λ n. n < 2 ^ 32) (to_be_bytes w32) (λ len end bytes. cond (ltb 0 len && leb len 65535) (run_at len end bytes) (Err (bad_attribute at))) u4_reads (u4_tells file start Meant cuts)
-      (λ len small. either_tells file start Meant (ltb 0 len && leb len 65535) (run_at len) (λ end bytes. Err (bad_attribute at)) (λ y. run_tells file start Meant cuts len small) (λ n. fail_tells file start Meant (bad_attribute at) (λ end. name)))
+  code_bytes_tells at name named text =
+      here_tells file start Meant u4_at (λ n. n < 2 ^ 32) (to_be_bytes w32) (λ from len end bytes. cond (ltb 0 len && leb len 65535) (run_at len end bytes) (Err (bad_attribute at (bad_length len)))) u4_reads (u4_tells file start Meant cuts)
+      (λ from len k. either_tells file start Meant (ltb 0 len && leb len 65535) (run_at len) (λ end bytes. Err (bad_attribute at (bad_length len))) (λ y. run_tells file start Meant cuts len k.0)
+      (λ n. fail_tells file start Meant (bad_attribute at (bad_length len)) (λ end. record { name = name; named = named; reason = (record { at = from; stands = k.1; behind = k.2; outside = outside len n }, text) })))
 
   module _ (few : IsFew pool) where
     code_attributes_tells : Tells file start Meant (code_attributes_at pool)
@@ -254,27 +275,35 @@ module _ (pool : Pool) (file : List ℕ) (start : ℕ) where
         (λ name p. p.0) (code_content_at pool) code_content_tells)
         (code_attributes_read pool few)
 
-    code_tells : (name at : ℕ) → IsNameAt pool file start at → Tells file start Meant (code_at pool name at)
+    code_tells : (name at : ℕ) → IsNameAt pool file start at name → text_of pool name ≡ codes "Code" → Tells file start Meant (code_at pool name at)
     unfolding code_at
-    code_tells name at there =
+    code_tells name at there text =
         then_tells file start Meant u2_at (code_locals pool name at) number_tells
         (λ stack. then_tells file start Meant u2_at (code_run pool name at stack) number_tells
-        (λ locals. then_tells file start Meant (code_bytes_at at) (code_table pool name at stack locals) (code_bytes_tells at there)
+        (λ locals. then_tells file start Meant (code_bytes_at at) (code_table pool name at stack locals) (code_bytes_tells at name there text)
         (λ code. then_tells file start Meant (counted_at (handler_at pool)) (code_inner pool name at stack locals code) (each_tells file start Meant cuts (handler_at pool) handler_tells)
         (λ table. made_tells file start Meant (code_attributes_at pool) (code_made pool name at stack locals code table) code_attributes_tells))))
 
-    own_tells : (stand : Place) (name at : ℕ) → IsNameAt pool file start at → Tells file start Meant (own_content_at pool stand name at)
-    own_tells in_class name at there = bootstraps_tells name at there
-    own_tells (in_field descriptor) name at there = constant_value_tells name at there descriptor
-    own_tells in_method name at there = code_tells name at there
-    own_tells in_code name at there = stack_map_tells name at there
+    own_tells : (stand : Place) (name at : ℕ) → IsNameAt pool file start at name → text_of pool name ≡ own_name stand → Tells file start Meant (own_content_at pool stand name at)
+    own_tells in_class name at there text = bootstraps_tells name at there
+    own_tells (in_field descriptor) name at there text = constant_value_tells name at there descriptor
+    own_tells in_method name at there text = code_tells name at there text
+    own_tells in_code name at there text = stack_map_tells name at there
 
-    content_tells : (stand : Place) (name at : ℕ) → IsNameAt pool file start at → Tells file start Meant (content_at pool stand name at)
+    -- a known name that isn't the place's own
+    annotations_text : (stand : Place) (name : ℕ) → is_text pool name ≡ true → bytes_eq (own_name stand) (text_of pool name) ≡ false → is_known stand (text_of pool name) ≡ true → text_of pool name ≡ codes "RuntimeVisibleAnnotations"
+    unfolding is_known
+    annotations_text in_class name named other known = is_same _ (text_of pool name) (left_known pool few name named (codes "BootstrapMethods") (codes "RuntimeVisibleAnnotations") known other)
+    annotations_text (in_field d) name named other known = is_same _ (text_of pool name) (left_known pool few name named (codes "ConstantValue") (codes "RuntimeVisibleAnnotations") known other)
+    annotations_text in_method name named other known = is_same _ (text_of pool name) (left_known pool few name named (codes "Code") (codes "RuntimeVisibleAnnotations") known other)
+    annotations_text in_code name named other known = absurd (none_left pool few name named (codes "StackMapTable") known other)
+
+    content_tells : (stand : Place) (name at : ℕ) → IsNameAt pool file start at name → Tells file start Meant (content_at pool stand name at)
     unfolding content_at
     content_tells stand name at there =
         either_tells file start Meant (bytes_eq (own_name stand) (text_of pool name)) (own_content_at pool stand name at) (λ end bytes. cond (is_known stand (text_of pool name)) (annotations_at pool name at end bytes) (other_at name end bytes))
-        (λ y. own_tells stand name at there)
-        (λ n. either_tells file start Meant (is_known stand (text_of pool name)) (annotations_at pool name at) (other_at name) (λ y. annotations_tells name at there) (λ m. other_tells name))
+        (λ y. own_tells stand name at there (is_same (own_name stand) (text_of pool name) y))
+        (λ n. either_tells file start Meant (is_known stand (text_of pool name)) (annotations_at pool name at) (other_at name) (λ y. annotations_tells name at there (annotations_text stand name there.text n y)) (λ m. other_tells name))
 
     pub attributes_tells : (stand : Place) (barred : Bool) → Tells file start Meant (attributes_at pool stand barred)
     unfolding attributes_at attribute_at spelling.attribute

@@ -11,7 +11,7 @@ use Rattle.class_model.specs.Constants.{IsPool}
 use Rattle.class_model.specs.Attributes.{Place, in_class, in_field, in_method, in_code, is_known, attribute_name, HasForm, IsHandler, IsCodeAttributes}
 use Rattle.class_model.specs.Shape.{is_plain_class, has_code}
 use Rattle.class_model.specs.Spelling as spelling
-use Rattle.class_text.specs.Reading.{Fault, cut_short, bad_magic, bad_major, bad_attribute, second_attribute, code_missing, bytes_left, is_cut, place_of, place, IsBytes}
+use Rattle.class_text.specs.Reading.{Fault, cut_short, bad_magic, bad_major, bad_attribute, bad_length, barred_code, second_attribute, code_missing, bytes_left, is_cut, place_of, place, IsBytes}
 use Rattle.class_text.specs.Readers.{Reader, u2_at, u4_at, index_at, counted_at, counted_after, run_at, within}
 use Rattle.class_text.specs.Pool.{pool_at}
 use Rattle.class_text.specs.Elements.{is_text}
@@ -68,8 +68,8 @@ module _ (pool : Pool) (few : IsFew pool) (stand : Place) (barred : Bool) (befor
 
   judged_tied : (at n : ℕ) → Tied (suc at) (IsAt at) Within (judged pool stand barred before at n)
   judged_tied at n =
-      either_tied (suc at) (IsAt at) Within (is_first (is_known stand) bytes_eq (map (attribute_name pool) before) (text_of pool n)) (λ end bytes. cond (barred && bytes_eq (codes "Code") (text_of pool n)) (Err (bad_attribute at)) (Ok (n, bytes))) (λ end bytes. Err (second_attribute at))
-      (either_tied (suc at) (IsAt at) Within (barred && bytes_eq (codes "Code") (text_of pool n)) (λ end bytes. Err (bad_attribute at)) (λ end bytes. Ok (n, bytes)) (fail_tied (suc at) (IsAt at) Within (bad_attribute at) refl) (give_tied (suc at) (IsAt at) Within n))
+      either_tied (suc at) (IsAt at) Within (is_first (is_known stand) bytes_eq (map (attribute_name pool) before) (text_of pool n)) (λ end bytes. cond (barred && bytes_eq (codes "Code") (text_of pool n)) (Err (bad_attribute at barred_code)) (Ok (n, bytes))) (λ end bytes. Err (second_attribute at))
+      (either_tied (suc at) (IsAt at) Within (barred && bytes_eq (codes "Code") (text_of pool n)) (λ end bytes. Err (bad_attribute at barred_code)) (λ end bytes. Ok (n, bytes)) (fail_tied (suc at) (IsAt at) Within (bad_attribute at barred_code) refl) (give_tied (suc at) (IsAt at) Within n))
       (fail_tied (suc at) (IsAt at) Within (second_attribute at) refl)
 
   named_none : CutsNothing (named_at pool stand barred before)
@@ -109,8 +109,8 @@ module _ (pool : Pool) (few : IsFew pool) where
   code_bytes_tied : (at : ℕ) → Tied (suc at) (IsAt at) InCode (code_bytes_at at)
   unfolding code_bytes_at
   code_bytes_tied at =
-      bind_tied (suc at) (IsAt at) InCode u4_at (λ n. n < 2 ^ 32) (to_be_bytes w32) (λ len end bytes. cond (ltb 0 len && leb len 65535) (run_at len end bytes) (Err (bad_attribute at))) u4_reads (u4_tied (suc at) (IsAt at) InCode)
-      (λ len p. either_tied (suc at) (IsAt at) InCode (ltb 0 len && leb len 65535) (run_at len) (λ end bytes. Err (bad_attribute at)) (run_tied (suc at) (IsAt at) InCode len) (fail_tied (suc at) (IsAt at) InCode (bad_attribute at) refl))
+      bind_tied (suc at) (IsAt at) InCode u4_at (λ n. n < 2 ^ 32) (to_be_bytes w32) (λ len end bytes. cond (ltb 0 len && leb len 65535) (run_at len end bytes) (Err (bad_attribute at (bad_length len)))) u4_reads (u4_tied (suc at) (IsAt at) InCode)
+      (λ len p. either_tied (suc at) (IsAt at) InCode (ltb 0 len && leb len 65535) (run_at len) (λ end bytes. Err (bad_attribute at (bad_length len))) (run_tied (suc at) (IsAt at) InCode len) (fail_tied (suc at) (IsAt at) InCode (bad_attribute at (bad_length len)) refl))
 
   handler_tied : (low : ℕ) (K : Fault → Type 0) → Tied low K InCode (handler_at pool)
   unfolding handler_at

@@ -10,7 +10,7 @@ use Rattle.class_model.specs.declared.attribute_forms.Attribute.{Attribute}
 use Rattle.class_model.specs.Attributes.{in_class, in_field, in_method}
 use Rattle.class_model.specs.Shape.{is_plain_class, has_code}
 use Rattle.class_model.specs.Spelling as spelling
-use Rattle.class_text.specs.Reading.{Fault, cut_short, bad_tag, bad_text, bad_index, bad_magic, bad_major, bad_attribute, second_attribute, code_missing, bytes_left, place, IsBytes}
+use Rattle.class_text.specs.Reading.{Fault, cut_short, bad_tag, bad_text, bad_index, astray, bad_magic, bad_major, bad_attribute, second_attribute, code_missing, bytes_left, place, IsBytes}
 use Rattle.class_text.specs.Readers.{Reader, u2_at, u4_at, index_at, counted_at, counted_after}
 use Rattle.class_text.specs.Pool.{pool_at}
 use Rattle.class_text.specs.Attributes.{text_of, attributes_at}
@@ -119,14 +119,14 @@ in_pool : (file : List ℕ) (f : Fault) → IsMeantInPool file 8 (length file) f
 in_pool file (cut_short at) m = m
 in_pool file (bad_tag at tag) m = (m.0, m.1)
 in_pool file (bad_text at) m = m
-in_pool file (bad_index at) m = inl m
+in_pool file (bad_index at) m = m
 in_pool file f m = absurd m
 
 behind_pool : (file : List ℕ) (f : Fault) (pool : Pool) (after : List ℕ) → pool_at (length file) (drop 8 file) ≡ Ok (pool, after) → 8 ≤ place (length file) after → IsMeantBehind pool file (place (length file) after) (length file) f → IsMeant file f
-behind_pool file (cut_short at) pool after is low m = m
+behind_pool file (cut_short at) pool after is low m = m.short
 behind_pool file (bad_tag at tag) pool after is low m = (m.0, omega (arith, low, m.1))
-behind_pool file (bad_index at) pool after is low m = inr (record { pool = pool; after = after; reads = is; says = m })
-behind_pool file (bad_attribute at) pool after is low m = record { pool = pool; after = after; reads = is; says = m }
+behind_pool file (astray at numbers) pool after is low m = record { pool = pool; after = after; reads = is; says = m }
+behind_pool file (bad_attribute at why) pool after is low m = record { pool = pool; after = after; reads = is; says = m }
 behind_pool file (second_attribute at) pool after is low m = record { pool = pool; after = after; reads = is; says = m }
 behind_pool file (code_missing at) pool after is low m = record { pool = pool; after = after; reads = is; says = m }
 behind_pool file f pool after is low m = absurd m

@@ -13,7 +13,7 @@ use Rattle.class_model.specs.Annotations.{IsCounted}
 use Rattle.class_model.specs.Attributes.{Place, in_class, in_field, in_method, in_code, is_known, is_named, attribute_name, IsHandler, IsOther, IsCode, HasForm, IsCodeAttribute, IsCodeAttributes, IsAttribute, IsAttributes}
 use Rattle.class_model.specs.Attributes as model
 use Rattle.class_model.specs.Spelling as spelling
-use Rattle.class_text.specs.Reading.{bad_attribute, IsBytes}
+use Rattle.class_text.specs.Reading.{bad_attribute, bad_length, IsBytes}
 use Rattle.class_text.specs.Readers.{u2_at, u4_at, counted_at, run_at}
 use Rattle.class_text.specs.Elements.{is_text}
 use Rattle.class_text.specs.Attributes.{text_of, handler_at, code_content_at, code_attribute_at, code_attributes_at, code_bytes_at, code_at, own_name, own_content_at, content_at, annotations_at, other_at, attribute_at, attributes_at, bootstraps_at, constant_value_at, stack_map_at}
@@ -75,9 +75,9 @@ pub code_bytes_read : (pool : Pool) → IsFew pool → (at : ℕ) → Reads (cod
 unfolding code_bytes_at
 code_bytes_read pool few at =
     as_reads (code_bytes_at at) _ _ IsCodeBytes (λ code. to_be_bytes w32 (length code) ++ code)
-    (bind_reads u4_at (λ n. n < 2 ^ 32) (to_be_bytes w32) (λ len end bytes. cond (ltb 0 len && leb len 65535) (run_at len end bytes) (Err (bad_attribute at)))
+    (bind_reads u4_at (λ n. n < 2 ^ 32) (to_be_bytes w32) (λ len end bytes. cond (ltb 0 len && leb len 65535) (run_at len end bytes) (Err (bad_attribute at (bad_length len))))
     (λ len code. ((ltb 0 len && leb len 65535) ≡ true) × ((length code ≡ len) × IsBytes code)) (λ len code. code) length u4_reads
-    (λ len low. unless_reads (ltb 0 len && leb len 65535) (bad_attribute at) (run_at len) (λ code. (length code ≡ len) × IsBytes code) (λ code. code) (λ y. run_reads len))
+    (λ len low. unless_reads (ltb 0 len && leb len 65535) (bad_attribute at (bad_length len)) (run_at len) (λ code. (length code ≡ len) × IsBytes code) (λ code. code) (λ y. run_reads len))
     (λ len code q. q.1.0))
     (λ code p. let parts = and_parts (ltb 0 (length code)) (leb (length code) 65535) p.1.0 in
     record { some = ltb-true 0 (length code) parts.0; short = leb-true (length code) 65535 parts.1; bytes = bytes_all code p.1.1.1 })

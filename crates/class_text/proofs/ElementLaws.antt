@@ -16,7 +16,7 @@ use Rattle.class_model.specs.Constants.{constant_at, text_at, is_some_that}
 use Rattle.class_model.specs.Descriptors.{is_field_descriptor, is_return_descriptor}
 use Rattle.class_model.specs.Annotations.{IsCounted, is_value_of, IsPairBy, IsNoteBy, IsElementBy, IsElement, IsAnnotation}
 use Rattle.class_model.specs.Spelling as spelling
-use Rattle.class_text.specs.Reading.{bad_tag, bad_attribute}
+use Rattle.class_text.specs.Reading.{bad_tag, bad_attribute, too_deep}
 use Rattle.class_text.specs.Readers.{Reader, u1_at, index_at, counted_at}
 use Rattle.class_text.specs.Elements.{is_text, is_type, is_result, is_value, is_constant_tag, pair_by, note_by, enum_at, tagged_by, element_at, note_at}
 use Rattle.class_text.proofs.Steps.{constant_value, class_value, note_value, array_value, not_note, not_class, not_enum, not_constant}
@@ -248,7 +248,7 @@ module _ (pool : Pool) (few : IsFew pool) (value : Reader Element) (W : Element 
 
 pub element_reads : (at : ℕ) (pool : Pool) → IsFew pool → (depth : ℕ) → Reads (element_at at pool depth) (IsElement pool depth) (spelling.element depth)
 unfolding element_at IsElement spelling.element
-element_reads at pool few zero = no_reads (bad_attribute at) (λ e. ⊥) (λ e. []) (λ e is. is)
+element_reads at pool few zero = no_reads (bad_attribute at too_deep) (λ e. ⊥) (λ e. []) (λ e is. is)
 element_reads at pool few (suc depth) = value_by_reads pool few (element_at at pool depth) (IsElement pool depth) (spelling.element depth) (element_reads at pool few depth)
 
 pub annotation_reads : (at : ℕ) (pool : Pool) → IsFew pool → Reads (note_at at pool) (IsAnnotation pool) (spelling.note_by (spelling.element spelling.greatest_depth))

@@ -6,7 +6,7 @@ use Rattle.class_model.specs.declared.constant_pool.Pool.{Pool}
 use Rattle.class_model.specs.declared.attribute_forms.Attribute.{Attribute, out-Attribute}
 use Rattle.class_model.specs.Attributes.{Place, is_known, attribute_name, IsAttributesBy}
 use Rattle.class_model.specs.Spelling as spelling
-use Rattle.class_text.specs.Reading.{bad_attribute, second_attribute}
+use Rattle.class_text.specs.Reading.{bad_attribute, barred_code, second_attribute}
 use Rattle.class_text.specs.Readers.{Reader, u4_at, index_at, counted_after, within}
 use Rattle.class_text.specs.Elements.{is_text}
 use Rattle.class_text.specs.Attributes.{text_of, is_first, named_at, attribute_by}
@@ -55,8 +55,8 @@ module _ (pool : Pool) (few : IsFew pool) (stand : Place) (barred : Bool) (conte
 
   judged_reads : (before : List Attribute) (at n : ℕ) → Reads (judged pool stand barred before at n) (λ m. (is_first (is_known stand) bytes_eq (map (attribute_name pool) before) (text_of pool n) ≡ true) × (((barred && bytes_eq (codes "Code") (text_of pool n)) ≡ false) × (m ≡ n))) (λ m. [])
   judged_reads before at n =
-      unless_reads (is_first (is_known stand) bytes_eq (map (attribute_name pool) before) (text_of pool n)) (second_attribute at) (λ end bytes. cond (barred && bytes_eq (codes "Code") (text_of pool n)) (Err (bad_attribute at)) (Ok (n, bytes))) _ _
-      (λ first. except_reads (barred && bytes_eq (codes "Code") (text_of pool n)) (bad_attribute at) (λ end bytes. Ok (n, bytes)) (λ m. m ≡ n) (λ m. []) (λ plain. give_reads n))
+      unless_reads (is_first (is_known stand) bytes_eq (map (attribute_name pool) before) (text_of pool n)) (second_attribute at) (λ end bytes. cond (barred && bytes_eq (codes "Code") (text_of pool n)) (Err (bad_attribute at barred_code)) (Ok (n, bytes))) _ _
+      (λ first. except_reads (barred && bytes_eq (codes "Code") (text_of pool n)) (bad_attribute at barred_code) (λ end bytes. Ok (n, bytes)) (λ m. m ≡ n) (λ m. []) (λ plain. give_reads n))
 
   pub named_reads : (before : List Attribute) → Reads (named_at pool stand barred before) (IsNew before) (to_be_bytes w16)
   unfolding named_at

@@ -3,7 +3,7 @@ use Rattle.std.proofs.Common.{◌≡◌, ℕ, zero, suc, eqb, ltb, ◌+◌, ◌^
 use Rattle.std.specs.Int.{Width, w16, w32, to_be_bytes}
 use Rattle.std.proofs.lemmas.Bool.{cases_Bool}
 use Rattle.std.proofs.lemmas.List.{length-append}
-use Rattle.class_text.specs.Reading.{Fault, cut_short, bad_index, bad_attribute, bytes_left, place_of, is_cut, Reading, place, number_at, IsBytes}
+use Rattle.class_text.specs.Reading.{Fault, cut_short, astray, bad_attribute, cut_within, goes_on, bytes_left, place_of, is_cut, Reading, place, number_at, IsBytes}
 use Rattle.class_text.specs.Readers.{Reader, u1_at, u2_at, u4_at, index_at, many_after, counted_at, counted_after, run_at, whole, within}
 use Rattle.class_text.proofs.Numbers.{bind_ok, ok_is}
 use Rattle.class_text.proofs.Places.{Failed, first, later, bind_err, err_is, cut_fault}
@@ -152,8 +152,8 @@ u1_inside low = record {
 pub index_inside : (leads : ℕ → Bool) (low : ℕ) → Inside low 2 (index_at leads)
 unfolding index_at
 index_inside leads low =
-    here_inside low 2 u2_at (λ at n end bytes. cond (leads n) (Ok (n, bytes)) (Err (bad_index at))) (omega arith) (u2_inside low)
-    (λ at up n. either_inside (suc at) 0 (leads n) (λ end bytes. Ok (n, bytes)) (λ end bytes. Err (bad_index at)) (give_inside (suc at) n) (fail_inside (suc at) 0 (bad_index at) (λ end over. omega (arith, over))))
+    here_inside low 2 u2_at (λ at n end bytes. cond (leads n) (Ok (n, bytes)) (Err (astray at leads))) (omega arith) (u2_inside low)
+    (λ at up n. either_inside (suc at) 0 (leads n) (λ end bytes. Ok (n, bytes)) (λ end bytes. Err (astray at leads)) (give_inside (suc at) n) (fail_inside (suc at) 0 (astray at leads) (λ end over. omega (arith, over))))
 
 -- ---- lists
 
@@ -194,7 +194,7 @@ unfolding within whole
 within_inside {A = A} at len inner r = record { faults = fault; rest = left }
   where
     behind : (end : ℕ) → List ℕ × List ℕ → Reading A
-    behind end run = whole at run.1 (inner (place end run.1) run.0)
+    behind end run = whole at (place end run.1) run.1 (inner (place end run.1) run.0)
 
     fault : (end : ℕ) (bytes : List ℕ) (f : Fault) → IsBytes bytes → suc at + length bytes ≤ end → within at len inner end bytes ≡ Err f → IsInside end f
     fault end bytes f are room e = go (bind_err (run_at len end bytes) (behind end) f e)
@@ -204,13 +204,13 @@ within_inside {A = A} at len inner r = record { faults = fault; rest = left }
         wider low high (bytes_left p) up is = is
         wider low high g up is = omega (arith, up, is)
 
-        judged : (rest : List ℕ) (found : Reading A) → ((g : Fault) → found ≡ Err g → IsInside (place end rest) g) → whole at rest found ≡ Err f → IsInside end f
+        judged : (rest : List ℕ) (found : Reading A) → ((g : Fault) → found ≡ Err g → IsInside (place end rest) g) → whole at (place end rest) rest found ≡ Err f → IsInside end f
         judged rest (Ok x) on e = elim (cases_Bool (eqb (length x.1) 0)) [
           | inl y ↦ absurd (let bad : Ok (x.0, rest) ≡ Err f = rw y at e in cc)
-          | inr g ↦ subst (IsInside end) (err_is {A = A × List ℕ} (bad_attribute at) f (rw g at e)) (omega (arith, room))
+          | inr g ↦ subst (IsInside end) (err_is {A = A × List ℕ} (bad_attribute at (goes_on (place (place end rest) x.1) (place end rest))) f (rw g at e)) (omega (arith, room))
         ]
         judged rest (Err g) on e = elim (cases_Bool (is_cut g)) [
-          | inl y ↦ subst (IsInside end) (err_is {A = A × List ℕ} (bad_attribute at) f (rw y at e)) (omega (arith, room))
+          | inl y ↦ subst (IsInside end) (err_is {A = A × List ℕ} (bad_attribute at (cut_within (place_of g) (place end rest))) f (rw y at e)) (omega (arith, room))
           | inr n ↦ subst (IsInside end) (err_is {A = A × List ℕ} g f (rw n at e)) (wider (place end rest) end g (omega arith) (on g refl))
         ]
 
@@ -225,11 +225,11 @@ within_inside {A = A} at len inner r = record { faults = fault; rest = left }
     left end bytes x after are room e =
         let run = bind_ok (run_at len end bytes) (behind end) (x, after) e in
         let t = (run_inside len (suc at)).rest end bytes run.0.0 run.0.1 are room run.1 in
-        subst (λ (l : List ℕ). IsBytes l × (length l + 0 ≤ length bytes)) (kept run.0.1 (inner (place end run.0.1) run.0.0) run.2) t
+        subst (λ (l : List ℕ). IsBytes l × (length l + 0 ≤ length bytes)) (kept (place end run.0.1) run.0.1 (inner (place end run.0.1) run.0.0) run.2) t
       where
-        kept : (rest : List ℕ) (found : Reading A) → whole at rest found ≡ Ok (x, after) → rest ≡ after
-        kept rest (Ok y) e = elim (cases_Bool (eqb (length y.1) 0)) [
+        kept : (stop : ℕ) (rest : List ℕ) (found : Reading A) → whole at stop rest found ≡ Ok (x, after) → rest ≡ after
+        kept stop rest (Ok y) e = elim (cases_Bool (eqb (length y.1) 0)) [
           | inl z ↦ ap (λ (p : A × List ℕ). p.1) (ok_is (y.0, rest) (x, after) (rw z at e))
-          | inr g ↦ absurd (let bad : Err (bad_attribute at) ≡ Ok (x, after) = rw g at e in cc)
+          | inr g ↦ absurd (let bad : Err (bad_attribute at (goes_on (place stop y.1) stop)) ≡ Ok (x, after) = rw g at e in cc)
         ]
-        kept rest (Err g) e = absurd cc
+        kept stop rest (Err g) e = absurd cc

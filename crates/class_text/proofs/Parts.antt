@@ -6,7 +6,7 @@ use Rattle.std.proofs.lemmas.Bool.{cases_Bool, eqb-true, ltb-false, le-ltb}
 use Rattle.std.proofs.lemmas.List.{take_at, drop_at, take-append-drop, length-append, length-take}
 use Rattle.class_model.specs.Annotations.{IsCounted}
 use Rattle.class_model.specs.Spelling.{counted}
-use Rattle.class_text.specs.Reading.{Fault, cut_short, bad_index, bad_attribute, is_cut, Reading, ◌>>=◌, place, number_at, or_cut, IsBytes}
+use Rattle.class_text.specs.Reading.{Fault, cut_short, astray, bad_attribute, goes_on, is_cut, Reading, ◌>>=◌, place, number_at, or_cut, IsBytes}
 use Rattle.class_text.specs.Readers.{Reader, u1_at, u2_at, u4_at, index_at, many_after, counted_at, counted_after, run_at, whole, within}
 use Rattle.class_text.proofs.Numbers.{IsBytes-drop, IsBytes-take, IsBytes-rest, bind_ok, ok_is, Takes, Takes-then, IsWide, wide16, wide32, number_takes, number_again}
 use Rattle.class_text.proofs.Places.{Failed, first, later, bind_err, err_is}
@@ -62,10 +62,10 @@ u1_reads = record {
 pub index_reads : (leads : ℕ → Bool) → ((n : ℕ) → leads n ≡ true → n < 2 ^ 16) → Reads (index_at leads) (λ n. leads n ≡ true) (to_be_bytes w16)
 unfolding index_at
 index_reads leads low =
-    here_reads (λ at. bind u2_at (λ n end bytes. cond (leads n) (Ok (n, bytes)) (Err (bad_index at)))) (λ n. leads n ≡ true) (to_be_bytes w16) (λ at.
-    as_reads (bind u2_at (λ n end bytes. cond (leads n) (Ok (n, bytes)) (Err (bad_index at)))) _ _ (λ n. leads n ≡ true) (to_be_bytes w16)
-    (bind_reads u2_at (λ n. n < 2 ^ 16) (to_be_bytes w16) (λ n end bytes. cond (leads n) (Ok (n, bytes)) (Err (bad_index at))) (λ n m. (leads n ≡ true) × (m ≡ n)) (λ n m. []) (λ m. m)
-    u2_reads (λ n p. unless_reads (leads n) (bad_index at) (λ end bytes. Ok (n, bytes)) (λ m. m ≡ n) (λ m. []) (λ y. give_reads n)) (λ n m q. q.1))
+    here_reads (λ at. bind u2_at (λ n end bytes. cond (leads n) (Ok (n, bytes)) (Err (astray at leads)))) (λ n. leads n ≡ true) (to_be_bytes w16) (λ at.
+    as_reads (bind u2_at (λ n end bytes. cond (leads n) (Ok (n, bytes)) (Err (astray at leads)))) _ _ (λ n. leads n ≡ true) (to_be_bytes w16)
+    (bind_reads u2_at (λ n. n < 2 ^ 16) (to_be_bytes w16) (λ n end bytes. cond (leads n) (Ok (n, bytes)) (Err (astray at leads))) (λ n m. (leads n ≡ true) × (m ≡ n)) (λ n m. []) (λ m. m)
+    u2_reads (λ n p. unless_reads (leads n) (astray at leads) (λ end bytes. Ok (n, bytes)) (λ m. m ≡ n) (λ m. []) (λ y. give_reads n)) (λ n m q. q.1))
     (λ n p. p.1.0) (λ n p. (low n p, (p, refl))) (λ n p. append-nil (to_be_bytes w16 n)))
 
 -- Each item has a shape beside those before it.
@@ -190,16 +190,16 @@ no_bytes [] e = refl
 no_bytes (b ∷ bytes) e = absurd (omega (arith, eqb-true (suc (length bytes)) 0 e))
 
 -- what was read of a run was all of it
-whole_ok : {A : Type 0} (at : ℕ) (rest : List ℕ) (found : Reading A) (x : A) (after : List ℕ) → whole at rest found ≡ Ok (x, after) → (found ≡ Ok (x, [])) × (after ≡ rest)
+whole_ok : {A : Type 0} (at stop : ℕ) (rest : List ℕ) (found : Reading A) (x : A) (after : List ℕ) → whole at stop rest found ≡ Ok (x, after) → (found ≡ Ok (x, [])) × (after ≡ rest)
 unfolding whole
-whole_ok {A = A} at rest (Ok (y, left)) x after e = elim (cases_Bool (eqb (length left) 0)) [
+whole_ok {A = A} at stop rest (Ok (y, left)) x after e = elim (cases_Bool (eqb (length left) 0)) [
   | inl z ↦ (let same = ok_is (y, rest) (x, after) (rw z at e) in
       let one : y ≡ x = ap (λ (p : A × List ℕ). p.0) same in
       let none : left ≡ [] = no_bytes left z in
       (rw (one, none) refl, sym (ap (λ (p : A × List ℕ). p.1) same)))
-  | inr g ↦ absurd (let bad : Err (bad_attribute at) ≡ Ok (x, after) = rw g at e in cc)
+  | inr g ↦ absurd (let bad : Err (bad_attribute at (goes_on (place stop left) stop)) ≡ Ok (x, after) = rw g at e in cc)
 ]
-whole_ok at rest (Err f) x after e = absurd cc
+whole_ok at stop rest (Err f) x after e = absurd cc
 
 pub within_reads : {A : Type 0} (at len : ℕ) (inner : Reader A) (P : A → Type 0) (s : A → List ℕ) → ReadsAll inner P s
     → Reads (within at len inner) (λ x. P x × (length (s x) ≡ len)) s
@@ -207,13 +207,13 @@ unfolding within whole
 within_reads {A = A} at len inner P s r = record { takes = taken; again = again_in; stays = stays_in }
   where
     behind : (end : ℕ) → List ℕ × List ℕ → Reading A
-    behind end run = whole at run.1 (inner (place end run.1) run.0)
+    behind end run = whole at (place end run.1) run.1 (inner (place end run.1) run.0)
 
     taken : (end : ℕ) (bytes : List ℕ) (x : A) (rest : List ℕ) → IsBytes bytes → within at len inner end bytes ≡ Ok (x, rest) → (P x × (length (s x) ≡ len)) × Takes bytes (s x) rest
     taken end bytes x rest are e =
-        let run = bind_ok (run_at len end bytes) (λ run. whole at run.1 (inner (place end run.1) run.0)) (x, rest) e in
+        let run = bind_ok (run_at len end bytes) (λ run. whole at (place end run.1) run.1 (inner (place end run.1) run.0)) (x, rest) e in
         let t = (run_reads len).takes end bytes run.0.0 run.0.1 are run.1 in
-        let w = whole_ok at run.0.1 (inner (place end run.0.1) run.0.0) x rest run.2 in
+        let w = whole_ok at (place end run.0.1) run.0.1 (inner (place end run.0.1) run.0.0) x rest run.2 in
         let u = r.takes (place end run.0.1) run.0.0 x t.0.1 w.0 in
         let size : length (s x) ≡ len = ap length (sym u.1) ∙ t.0.0 in
         ((u.0, size), subst (λ (l : List ℕ). Takes bytes (s x) l) (sym w.1) (subst (λ (l : List ℕ). Takes bytes l run.0.1) u.1 t.1))
@@ -221,24 +221,24 @@ within_reads {A = A} at len inner P s r = record { takes = taken; again = again_
     again_in : (end : ℕ) (x : A) (rest : List ℕ) → P x × (length (s x) ≡ len) → within at len inner end (s x ++ rest) ≡ Ok (x, rest)
     again_in end x rest p =
         ap (λ (found : Reading (List ℕ)). found >>= behind end) (run_again len end (s x) rest p.1)
-        ∙ ap (whole at rest) (r.again (place end rest) x p.0)
+        ∙ ap (whole at (place end rest) rest) (r.again (place end rest) x p.0)
 
     stays_in : (end : ℕ) (bytes more : List ℕ) (f : Fault) → IsBytes bytes → is_cut f ≡ false → within at len inner end bytes ≡ Err f → within at len inner (end + length more) (bytes ++ more) ≡ Err f
     stays_in end bytes more f are plain e = go (bind_err (run_at len end bytes) (behind end) f e)
       where
-        more_whole : (found : Reading A) (rest after : List ℕ) → whole at rest found ≡ Err f → whole at after found ≡ Err f
-        more_whole (Ok x) rest after e = elim (cases_Bool (eqb (length x.1) 0)) [
+        more_whole : (stop : ℕ) (found : Reading A) (rest after : List ℕ) → whole at stop rest found ≡ Err f → whole at stop after found ≡ Err f
+        more_whole stop (Ok x) rest after e = elim (cases_Bool (eqb (length x.1) 0)) [
           | inl y ↦ absurd (let bad : Ok (x.0, rest) ≡ Err f = rw y at e in cc)
           | inr g ↦ rw g (rw g at e)
         ]
-        more_whole (Err g) rest after e = e
+        more_whole stop (Err g) rest after e = e
 
         go : Failed (run_at len end bytes) (behind end) f → within at len inner (end + length more) (bytes ++ more) ≡ Err f
         go (first is) = ap (λ (found : Reading (List ℕ)). found >>= behind (end + length more)) ((run_reads len).stays end bytes more f are plain is)
         go (later run is is') =
             ap (λ (found : Reading (List ℕ)). found >>= behind (end + length more)) (reads_on (run_at len) (λ l. (length l ≡ len) × IsBytes l) (λ l. l) (run_reads len) end bytes more run.0 run.1 are is)
-            ∙ ap (λ (at' : ℕ). whole at (run.1 ++ more) (inner at' run.0)) (place_on end run.1 more)
-            ∙ more_whole (inner (place end run.1) run.0) run.1 (run.1 ++ more) is'
+            ∙ ap (λ (at' : ℕ). whole at at' (run.1 ++ more) (inner at' run.0)) (place_on end run.1 more)
+            ∙ more_whole (place end run.1) (inner (place end run.1) run.0) run.1 (run.1 ++ more) is'
 
 -- ---- lists whose items have a shape of their own, and one beside those before them
 

@@ -13,7 +13,7 @@ use Rattle.class_model.specs.declared.attribute_forms.Attribute.TheOpen.{Attribu
 use Rattle.class_model.specs.declared.attribute_forms.Handler.{Handler}
 use Rattle.class_model.specs.Attributes.{Place, in_class, in_field, in_method, is_known, attribute_name}
 use Rattle.class_model.specs.Shape.{is_plain_class, has_code}
-use Rattle.class_text.specs.Reading.{bad_tag, bad_attribute, second_attribute, code_missing}
+use Rattle.class_text.specs.Reading.{bad_tag, bad_attribute, barred_code, second_attribute, code_missing}
 use Rattle.class_text.specs.Readers.{Reader, u2_at, index_at, counted_at, counted_after}
 use Rattle.class_text.specs.Frames.{is_class, type_of, frame_of, with_item_at, with_locals_at, full_at, behind_delta_at}
 use Rattle.class_text.specs.Elements.{is_result, is_value, note_by, enum_at}
@@ -75,7 +75,7 @@ module _ (pool : Pool) (value : Reader Element) (at tag : ℕ) where
 abbrev pub judged : Pool → Place → Bool → List Attribute → ℕ → ℕ → Reader ℕ
 judged pool stand barred before at n end bytes =
     cond (is_first (is_known stand) bytes_eq (map (attribute_name pool) before) (text_of pool n))
-    (cond (barred && bytes_eq (codes "Code") (text_of pool n)) (Err (bad_attribute at)) (Ok (n, bytes)))
+    (cond (barred && bytes_eq (codes "Code") (text_of pool n)) (Err (bad_attribute at barred_code)) (Ok (n, bytes)))
     (Err (second_attribute at))
 
 -- ---- a handler

@@ -6,7 +6,7 @@ use Rattle.std.proofs.lemmas.List.{length-append}
 use Rattle.class_model.specs.declared.constant_pool.Pool.{Pool}
 use Rattle.class_model.specs.declared.attribute_forms.Attribute.{Attribute}
 use Rattle.class_model.specs.Attributes.{Place}
-use Rattle.class_text.specs.Reading.{Fault, cut_short, bad_index, bad_attribute, place_of, is_cut, Reading, ◌>>=◌, place, number_at, IsBytes}
+use Rattle.class_text.specs.Reading.{Fault, cut_short, astray, bad_attribute, cut_within, goes_on, place_of, is_cut, Reading, ◌>>=◌, place, number_at, IsBytes}
 use Rattle.class_text.specs.Readers.{Reader, u2_at, u4_at, index_at, many_after, counted_after, run_at, whole, within}
 use Rattle.class_text.specs.Elements.{is_text}
 use Rattle.class_text.specs.Places.{IsInContent, Stops}
@@ -160,8 +160,8 @@ pub index_tied : (low : ℕ) (K : Fault → Type 0) (W : ℕ → List ℕ → Fa
 unfolding index_at
 index_tied low K W leads =
     lift_tied low K W (index_at leads)
-    (here_tied low 2 W u2_at (λ n. n < 2 ^ 16) (to_be_bytes w16) (λ at n end bytes. cond (leads n) (Ok (n, bytes)) (Err (bad_index at))) (omega arith) u2_none u2_reads (u2_inside low) (u2_tied low NoFault W)
-    (λ at n p. either_tied (suc at) (IsAt at) W (leads n) (λ end bytes. Ok (n, bytes)) (λ end bytes. Err (bad_index at)) (give_tied (suc at) (IsAt at) W n) (fail_tied (suc at) (IsAt at) W (bad_index at) refl)))
+    (here_tied low 2 W u2_at (λ n. n < 2 ^ 16) (to_be_bytes w16) (λ at n end bytes. cond (leads n) (Ok (n, bytes)) (Err (astray at leads))) (omega arith) u2_none u2_reads (u2_inside low) (u2_tied low NoFault W)
+    (λ at n p. either_tied (suc at) (IsAt at) W (leads n) (λ end bytes. Ok (n, bytes)) (λ end bytes. Err (astray at leads)) (give_tied (suc at) (IsAt at) W n) (fail_tied (suc at) (IsAt at) W (astray at leads) refl)))
 
 pub many_tied : {A : Type 0} (low : ℕ) (K : Fault → Type 0) (W : ℕ → List ℕ → Fault → Type 0) (one : List A → Reader A) (P : List A → A → Type 0) (s : A → List ℕ) → ((before : List A) → Reads (one before) (P before) s)
     → ((before : List A) → Tied low K W (one before)) → (n : ℕ) (before : List A) → Tied low K W (many_after one before n)
@@ -197,7 +197,7 @@ within_tied contents pool stand name at len named nothing end bytes f are room e
     inner = contents stand name at
 
     behind : List ℕ × List ℕ → Reading Attribute
-    behind run = whole at run.1 (inner (place end run.1) run.0)
+    behind run = whole at (place end run.1) run.1 (inner (place end run.1) run.0)
 
     none : 0 < len → CutsNothing (within at len inner)
     none some p = let less : ltb 0 len ≡ true = lt-ltb 0 len some in rw less refl
@@ -205,13 +205,13 @@ within_tied contents pool stand name at len named nothing end bytes f are room e
     here : (g : Fault) → failed {A = Attribute × List ℕ} g ≡ failed {A = Attribute × List ℕ} f → place_of f ≡ place_of g
     here g same = ap place_of (sym (err_is {A = Attribute × List ℕ} g f same))
 
-    judged : (run after : List ℕ) → run_at len end bytes ≡ Ok (run, after) → (found : Reading Attribute) → inner (place end after) run ≡ found → whole at after found ≡ Err f → Stops (within at len inner) (IsInContent contents pool) end bytes f ⊎ IsAt at f
+    judged : (run after : List ℕ) → run_at len end bytes ≡ Ok (run, after) → (found : Reading Attribute) → inner (place end after) run ≡ found → whole at (place end after) after found ≡ Err f → Stops (within at len inner) (IsInContent contents pool) end bytes f ⊎ IsAt at f
     judged run after is (Ok x) was e = elim (cases_Bool (eqb (length x.1) 0)) [
       | inl y ↦ absurd (let bad : Ok (x.0, after) ≡ Err f = rw y at e in cc)
-      | inr g ↦ inr (here (bad_attribute at) (rw g at e))
+      | inr g ↦ inr (here (bad_attribute at (goes_on (place (place end after) x.1) (place end after))) (rw g at e))
     ]
     judged run after is (Err g) was e = elim (cases_Bool (is_cut g)) [
-      | inl y ↦ inr (here (bad_attribute at) (rw y at e))
+      | inl y ↦ inr (here (bad_attribute at (cut_within (place_of g) (place end after))) (rw y at e))
       | inr n ↦ (let t = (run_reads len).takes end bytes run after are is in
           let same : g ≡ f = err_is {A = Attribute × List ℕ} g f (rw n at e) in
           let found : inner (place end after) run ≡ Err f = was ∙ ap (λ (h : Fault). Err h) same in

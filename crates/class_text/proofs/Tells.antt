@@ -1,12 +1,12 @@
 -- What a fault says of the file, for readers made of readers.
 use Rattle.std.proofs.Common.{◌≡◌, ℕ, zero, suc, eqb, ltb, ◌+◌, ◌^◌, ◌<◌, ◌≤◌, Bool, true, false, cond, List, [], ◌∷◌, ◌++◌, length, take, drop, flat_map, Ok, Err, refl, sym, ap, subst, ◌∙◌, append_assoc, append-nil, arith, inl, inr}
 use Rattle.std.specs.Int.{Width, byte_len, from_be_bytes, w16, w32, to_be_bytes}
-use Rattle.std.proofs.lemmas.Bool.{cases_Bool, ltb-true}
+use Rattle.std.proofs.lemmas.Bool.{cases_Bool, ltb-true, eqb-false}
 use Rattle.std.proofs.lemmas.List.{length-append}
 use Rattle.std.proofs.lemmas.Grind.{flat_map-append}
-use Rattle.class_text.specs.Reading.{Fault, cut_short, bad_index, bad_attribute, is_cut, Reading, place, IsBytes}
+use Rattle.class_text.specs.Reading.{Fault, cut_short, astray, bad_attribute, cut_within, goes_on, place_of, is_cut, Reading, place, IsBytes}
 use Rattle.class_text.specs.Readers.{Reader, u1_at, u2_at, u4_at, index_at, many_after, counted_at, counted_after, run_at, whole, within}
-use Rattle.class_text.specs.Meanings.{StandsAt}
+use Rattle.class_text.specs.Meanings.{StandsAt, IsLeftOver}
 use Rattle.class_text.proofs.Numbers.{bind_ok, ok_is}
 use Rattle.class_text.proofs.Places.{Failed, first, later, bind_err, err_is}
 use Rattle.class_text.proofs.Readers.{Reads, bind}
@@ -153,11 +153,11 @@ module _ (file : List ℕ) (start : ℕ) (M : ℕ → Fault → Type 0) where
       fault end [] f i e = subst (M end) (err_is {A = ℕ × List ℕ} (cut_short (place end [])) f e) (cuts end [] i (omega arith))
       fault end (b ∷ bytes) f i e = absurd cc
 
-  pub index_tells : Cuts → (leads : ℕ → Bool) → ((end at n : ℕ) → StandsAt file at (to_be_bytes w16 n) → start ≤ at → leads n ≡ false → M end (bad_index at)) → Tells file start M (index_at leads)
+  pub index_tells : Cuts → (leads : ℕ → Bool) → ((end at n : ℕ) → StandsAt file at (to_be_bytes w16 n) → start ≤ at → leads n ≡ false → M end (astray at leads)) → Tells file start M (index_at leads)
   unfolding index_at
   index_tells cuts leads bad =
-      here_tells u2_at (λ n. n < 2 ^ 16) (to_be_bytes w16) (λ at n end bytes. cond (leads n) (Ok (n, bytes)) (Err (bad_index at))) u2_reads (u2_tells cuts)
-      (λ at n k. either_tells (leads n) (λ end bytes. Ok (n, bytes)) (λ end bytes. Err (bad_index at)) (λ y. give_tells n) (λ no. fail_tells (bad_index at) (λ end. bad end at n k.1 k.2 no)))
+      here_tells u2_at (λ n. n < 2 ^ 16) (to_be_bytes w16) (λ at n end bytes. cond (leads n) (Ok (n, bytes)) (Err (astray at leads))) u2_reads (u2_tells cuts)
+      (λ at n k. either_tells (leads n) (λ end bytes. Ok (n, bytes)) (λ end bytes. Err (astray at leads)) (λ y. give_tells n) (λ no. fail_tells (astray at leads) (λ end. bad end at n k.1 k.2 no)))
 
   pub many_tells : {A : Type 0} (one : List A → Reader A) → ((before : List A) → Tells file start M (one before)) → (n : ℕ) (before : List A) → Tells file start M (many_after one before n)
   unfolding many_after
@@ -189,21 +189,36 @@ module _ (file : List ℕ) (start : ℕ) (M : ℕ → Fault → Type 0) where
   abbrev pub Anywhere : Type 0
   Anywhere = (low high : ℕ) (g : Fault) → is_cut g ≡ false → M low g → M high g
 
-  pub within_tells : {A : Type 0} → Cuts → Anywhere → (at len : ℕ) (inner : Reader A) → len < 2 ^ 32 → ((end : ℕ) → M end (bad_attribute at)) → Tells file start M inner → Tells file start M (within at len inner)
+  -- the content of the attribute at a place is cut where it says so, or something of it is left over
+  abbrev pub Cut : ℕ → Type 0
+  Cut at = (end stop : ℕ) (g : Fault) → is_cut g ≡ true → stop ≤ length file → M stop g → M end (bad_attribute at (cut_within (place_of g) stop))
+
+  abbrev pub Left : ℕ → Type 0
+  Left at = (end from stop : ℕ) → IsLeftOver file from stop → M end (bad_attribute at (goes_on from stop))
+
+  ends_in : (end : ℕ) (bytes : List ℕ) → There end bytes → end ≤ length file
+  ends_in end bytes i = omega (arith, i.ends, ap length i.parts, length-append i.front (bytes ++ i.back), length-append bytes i.back)
+
+  left_over : (stop : ℕ) (bytes : List ℕ) → There stop bytes → eqb (length bytes) 0 ≡ false → IsLeftOver file (place stop bytes) stop
+  left_over stop bytes i some =
+      let much = eqb-false (length bytes) 0 some in
+      record { bytes = bytes; stands = stands file start stop bytes bytes [] i (sym (append-nil bytes)); some = omega (arith, much); ends = omega (arith, i.ends) }
+
+  pub within_tells : {A : Type 0} → Cuts → Anywhere → (at len : ℕ) (inner : Reader A) → len < 2 ^ 32 → Cut at → Left at → Tells file start M inner → Tells file start M (within at len inner)
   unfolding within whole
-  within_tells {A = A} cuts same at len inner small bad t = record { faults = fault; rest = left }
+  within_tells {A = A} cuts same at len inner small cut over t = record { faults = fault; rest = left }
     where
       behind : (end : ℕ) → List ℕ × List ℕ → Reading A
-      behind end run = whole at run.1 (inner (place end run.1) run.0)
+      behind end run = whole at (place end run.1) run.1 (inner (place end run.1) run.0)
 
-      judged : (end : ℕ) (rest : List ℕ) (f : Fault) (found : Reading A) → ((g : Fault) → found ≡ Err g → M (place end rest) g) → whole at rest found ≡ Err f → M end f
-      judged end rest f (Ok x) on e = elim (cases_Bool (eqb (length x.1) 0)) [
+      judged : (end stop : ℕ) (rest : List ℕ) (f : Fault) (found : Reading A) → stop ≤ length file → ((g : Fault) → found ≡ Err g → M stop g) → ((x : A) (after : List ℕ) → found ≡ Ok (x, after) → There stop after) → whole at stop rest found ≡ Err f → M end f
+      judged end stop rest f (Ok x) within on behind e = elim (cases_Bool (eqb (length x.1) 0)) [
         | inl y ↦ absurd (let bad : Ok (x.0, rest) ≡ Err f = rw y at e in cc)
-        | inr n ↦ subst (M end) (err_is {A = A × List ℕ} (bad_attribute at) f (rw n at e)) (bad end)
+        | inr n ↦ subst (M end) (err_is {A = A × List ℕ} (bad_attribute at (goes_on (place stop x.1) stop)) f (rw n at e)) (over end (place stop x.1) stop (left_over stop x.1 (behind x.0 x.1 refl) n))
       ]
-      judged end rest f (Err g) on e = elim (cases_Bool (is_cut g)) [
-        | inl y ↦ subst (M end) (err_is {A = A × List ℕ} (bad_attribute at) f (rw y at e)) (bad end)
-        | inr n ↦ subst (M end) (err_is {A = A × List ℕ} g f (rw n at e)) (same (place end rest) end g n (on g refl))
+      judged end stop rest f (Err g) within on behind e = elim (cases_Bool (is_cut g)) [
+        | inl y ↦ subst (M end) (err_is {A = A × List ℕ} (bad_attribute at (cut_within (place_of g) stop)) f (rw y at e)) (cut end stop g y within (on g refl))
+        | inr n ↦ subst (M end) (err_is {A = A × List ℕ} g f (rw n at e)) (same stop end g n (on g refl))
       ]
 
       fault : (end : ℕ) (bytes : List ℕ) (f : Fault) → There end bytes → within at len inner end bytes ≡ Err f → M end f
@@ -213,19 +228,21 @@ module _ (file : List ℕ) (start : ℕ) (M : ℕ → Fault → Type 0) where
           go (first is) = (run_tells cuts len small).faults end bytes f i is
           go (later run is is') =
               let taken = (run_reads len).takes end bytes run.0 run.1 i.fits is in
-              judged end run.1 f (inner (place end run.1) run.0) (λ g e. t.faults (place end run.1) run.0 g (is_in_front file start end bytes run.0 run.1 i taken.1.parts taken.0.1) e) is'
+              let there = is_in_front file start end bytes run.0 run.1 i taken.1.parts taken.0.1 in
+              let stop = place end run.1 in
+              judged end stop run.1 f (inner stop run.0) (ends_in stop run.0 there) (λ g e. t.faults stop run.0 g there e) (λ x after e. t.rest stop run.0 x after there e) is'
 
-      kept : (rest after : List ℕ) (x : A) (found : Reading A) → whole at rest found ≡ Ok (x, after) → rest ≡ after
-      kept rest after x (Ok y) e = elim (cases_Bool (eqb (length y.1) 0)) [
+      kept : (stop : ℕ) (rest after : List ℕ) (x : A) (found : Reading A) → whole at stop rest found ≡ Ok (x, after) → rest ≡ after
+      kept stop rest after x (Ok y) e = elim (cases_Bool (eqb (length y.1) 0)) [
         | inl t ↦ ap (λ (p : A × List ℕ). p.1) (ok_is (y.0, rest) (x, after) (rw t at e))
-        | inr n ↦ absurd (let bad : Err (bad_attribute at) ≡ Ok (x, after) = rw n at e in cc)
+        | inr n ↦ absurd (let bad : Err (bad_attribute at (goes_on (place stop y.1) stop)) ≡ Ok (x, after) = rw n at e in cc)
       ]
-      kept rest after x (Err g) e = absurd cc
+      kept stop rest after x (Err g) e = absurd cc
 
       left : (end : ℕ) (bytes : List ℕ) (x : A) (after : List ℕ) → There end bytes → within at len inner end bytes ≡ Ok (x, after) → There end after
       left end bytes x after i e =
           let run = bind_ok (run_at len end bytes) (behind end) (x, after) e in
-          subst (There end) (kept run.0.1 after x (inner (place end run.0.1) run.0.0) run.2) ((run_tells cuts len small).rest end bytes run.0.0 run.0.1 i run.1)
+          subst (There end) (kept (place end run.0.1) run.0.1 after x (inner (place end run.0.1) run.0.0) run.2) ((run_tells cuts len small).rest end bytes run.0.0 run.0.1 i run.1)
 
 -- ---- readers whose bytes stand right behind a text
 

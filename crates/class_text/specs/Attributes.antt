@@ -8,7 +8,7 @@ use Rattle.class_model.specs.declared.attribute_forms.Handler.{Handler}
 use Rattle.class_model.specs.declared.attribute_forms.Bootstrap.{Bootstrap}
 use Rattle.class_model.specs.Constants.{constant_at, text_at, is_some_that}
 use Rattle.class_model.specs.Attributes.{Place, in_class, in_field, in_method, in_code, is_known, is_value_for, is_loadable, is_handle, attribute_name}
-use Rattle.class_text.specs.Reading.{bad_attribute, second_attribute, ◌>>=◌, place}
+use Rattle.class_text.specs.Reading.{bad_attribute, bad_length, barred_code, second_attribute, ◌>>=◌, place}
 use Rattle.class_text.specs.Readers.{Reader, u2_at, u4_at, index_at, counted_at, counted_after, run_at, within}
 use Rattle.class_text.specs.Frames.{is_class, frame_at}
 use Rattle.class_text.specs.Elements.{is_text, note_at}
@@ -89,7 +89,7 @@ named_at pool stand barred before end bytes =
     index_at (is_text pool) end bytes
     >>= (λ name.
     if is_first (is_known stand) bytes_eq (map (attribute_name pool) before) (text_of pool name.0) then
-    if barred && bytes_eq (codes "Code") (text_of pool name.0) then Err (bad_attribute (place end bytes)) else Ok name
+    if barred && bytes_eq (codes "Code") (text_of pool name.0) then Err (bad_attribute (place end bytes) barred_code) else Ok name
     else Err (second_attribute (place end bytes)))
 
 -- an attribute, whose content is read by its name and the place where the attribute stands
@@ -110,7 +110,8 @@ code_attributes_at pool = counted_after (code_attribute_at pool)
 unfoldable pub code_bytes_at : ℕ → Reader (List ℕ)
 code_bytes_at at end bytes =
     u4_at end bytes
-    >>= (λ len. if nat_lt 0 len.0 && nat_le len.0 65535 then run_at len.0 end len.1 else Err (bad_attribute at))
+    >>= (λ len. if nat_lt 0 len.0 && nat_le len.0 65535 then run_at len.0 end len.1
+    else Err (bad_attribute at (bad_length len.0)))
 
 -- JVMS 4.7.3
 unfoldable pub code_at : Pool → ℕ → ℕ → Reader Attribute

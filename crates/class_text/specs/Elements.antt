@@ -11,7 +11,7 @@ use Rattle.class_model.specs.Constants.{constant_at, text_at, is_some_that}
 use Rattle.class_model.specs.Descriptors.{is_field_descriptor, is_return_descriptor}
 use Rattle.class_model.specs.Annotations.{is_value_of}
 use Rattle.class_model.specs.Spelling.{greatest_depth}
-use Rattle.class_text.specs.Reading.{bad_tag, bad_attribute, ◌>>=◌, place}
+use Rattle.class_text.specs.Reading.{bad_tag, bad_attribute, too_deep, ◌>>=◌, place}
 use Rattle.class_text.specs.Readers.{Reader, u1_at, index_at, counted_at}
 
 -- the number of a text, of a type and of a type or `V`
@@ -62,7 +62,7 @@ tagged_by value pool at tag end bytes =
 
 -- A value that may be so deep, in the attribute at a place; it is bad where a value is deeper.
 unfoldable pub element_at : ℕ → Pool → ℕ → Reader Element
-element_at at pool zero end bytes = Err (bad_attribute at)
+element_at at pool zero end bytes = Err (bad_attribute at too_deep)
 element_at at pool (suc depth) end bytes =
     u1_at end bytes >>= (λ tag. tagged_by (element_at at pool depth) pool (place end bytes) tag.0 end tag.1)
 

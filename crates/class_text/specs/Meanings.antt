@@ -1,5 +1,5 @@
 -- What a fault says of the bytes at its place.
-use Rattle.std.specs.Prelude.{◌≡◌, ◌≢◌, ◌⊎◌, ◌+◌, ◌^◌, ◌<◌, ◌≤◌, ◌++◌, ◌∷◌, [], ℕ, Bool, true, false, List, length, take, drop, map, bytes_eq, flat_map, Ok}
+use Rattle.std.specs.Prelude.{◌≡◌, ◌≢◌, ◌⊎◌, ◌+◌, ◌^◌, ◌<◌, ◌≤◌, ◌++◌, ◌∷◌, [], ℕ, Bool, true, false, List, length, take, drop, map, codes, bytes_eq, flat_map, Ok}
 use Rattle.std.specs.Int.{w16, w32, to_be_bytes}
 use Rattle.class_model.specs.declared.constant_pool.Pool.{Pool}
 use Rattle.class_model.specs.declared.class_file.Class.{Class}
@@ -9,7 +9,7 @@ use Rattle.class_model.specs.Attributes.{Place, is_known, attribute_name}
 use Rattle.class_model.specs.ModifiedUtf8.{IsModifiedUtf8}
 use Rattle.class_model.specs.Shape.{is_plain_class, has_code}
 use Rattle.class_model.specs.Spelling as spelling
-use Rattle.class_text.specs.Reading.{Fault, cut_short, bad_tag, bad_text, bad_index, bad_magic, bad_major, bad_attribute, second_attribute, code_missing, bytes_left, place}
+use Rattle.class_text.specs.Reading.{Badness, cut_within, goes_on, bad_length, too_deep, barred_code, Fault, cut_short, bad_tag, bad_text, bad_index, astray, bad_magic, bad_major, bad_attribute, second_attribute, code_missing, bytes_left, place}
 use Rattle.class_text.specs.Pool.{pool_at, is_tag, is_wide, IsWrongAt}
 use Rattle.class_text.specs.Frames.{is_class}
 use Rattle.class_text.specs.Elements.{is_text, is_type, is_result, is_value}
@@ -58,22 +58,60 @@ leads pool a_handle n = leads_to_handle pool n
 leads pool a_loadable_constant n = leads_to_loadable pool n
 leads pool (a_field_value descriptor) n = leads_to_value pool descriptor n
 
+-- Behind a cut fewer than 2^32 bytes are left, so that nothing is cut there once so many more follow.
+abbrev pub IsShort : ℕ → ℕ → Type 0
+IsShort end at = end < at + 2 ^ 32
+
 -- ---- behind the pool
 
--- The index there doesn't lead to what is wanted.
-pub record IsAstray (pool : Pool) (file : List ℕ) (start at : ℕ) : Type 0 where
+-- The numbers that may stand there are those that lead to what is wanted, and the index there isn't one of them.
+pub record IsAstray (pool : Pool) (file : List ℕ) (start at : ℕ) (numbers : ℕ → Bool) : Type 0 where
   pub number : ℕ
   pub wanted : Wanted
+  pub asked : numbers ≡ leads pool wanted
   pub stands : StandsAt file at (to_be_bytes w16 number)
   pub behind : start ≤ at
   pub astray : leads pool wanted number ≡ false
 
 -- The name of an attribute stands there.
-pub record IsNameAt (pool : Pool) (file : List ℕ) (start at : ℕ) : Type 0 where
-  pub name : ℕ
+pub record IsNameAt (pool : Pool) (file : List ℕ) (start at name : ℕ) : Type 0 where
   pub stands : StandsAt file at (to_be_bytes w16 name)
   pub behind : start ≤ at
   pub text : is_text pool name ≡ true
+
+-- Fewer than 2^32 bytes of a part that goes on to an end stand behind a place in it.
+pub record IsCutAt (start end at : ℕ) : Type 0 where
+  pub behind : start ≤ at
+  pub before : at ≤ end
+  pub short : IsShort end at
+
+-- What follows the last item of a content: it begins at a place, and ends with the content.
+pub record IsLeftOver (file : List ℕ) (at stop : ℕ) : Type 0 where
+  pub bytes : List ℕ
+  pub stands : StandsAt file at bytes
+  pub some : 0 < length bytes
+  pub ends : stop ≡ at + length bytes
+
+-- A length of code stands behind the pool that code may not have.
+pub record IsBadLength (file : List ℕ) (start len : ℕ) : Type 0 where
+  pub at : ℕ
+  pub stands : StandsAt file at (to_be_bytes w32 len)
+  pub behind : start ≤ at
+  pub outside : (len ≡ 0) ⊎ (65535 < len)
+
+-- Why an attribute of a name is bad.
+abbrev pub IsBadFor : Pool → List ℕ → ℕ → ℕ → Badness → Type 0
+IsBadFor pool file start name (cut_within at stop) = IsCutAt start stop at × (stop ≤ length file)
+IsBadFor pool file start name (goes_on at stop) = IsLeftOver file at stop
+IsBadFor pool file start name (bad_length len) = IsBadLength file start len × (text_of pool name ≡ codes "Code")
+IsBadFor pool file start name too_deep = text_of pool name ≡ codes "RuntimeVisibleAnnotations"
+IsBadFor pool file start name barred_code = text_of pool name ≡ codes "Code"
+
+-- The name of an attribute stands there that is bad for this reason.
+pub record IsBadAttribute (pool : Pool) (file : List ℕ) (start at : ℕ) (why : Badness) : Type 0 where
+  pub name : ℕ
+  pub named : IsNameAt pool file start at name
+  pub reason : IsBadFor pool file start name why
 
 -- The name of an attribute stands there, and right before it the attributes behind their count, of which one has the same
 -- known name.
@@ -97,16 +135,12 @@ pub record IsWithoutCode (file : List ℕ) (start at : ℕ) : Type 0 where
   pub owed : is_barred method.flags ≡ false
   pub none : has_code method.attributes ≡ false
 
--- Behind a cut fewer than 2^32 bytes are left, so that nothing is cut there once so many more follow.
-abbrev pub IsShort : ℕ → ℕ → Type 0
-IsShort end at = end < at + 2 ^ 32
-
 -- A fault behind a pool that ends at `start`, of a part of the file that goes on to an end.
 abbrev pub IsMeantBehind : Pool → List ℕ → ℕ → ℕ → Fault → Type 0
-IsMeantBehind pool file start end (cut_short at) = IsShort end at
+IsMeantBehind pool file start end (cut_short at) = IsCutAt start end at
 IsMeantBehind pool file start end (bad_tag at tag) = StandsAt file at (tag ∷ []) × (start ≤ at)
-IsMeantBehind pool file start end (bad_index at) = IsAstray pool file start at
-IsMeantBehind pool file start end (bad_attribute at) = IsNameAt pool file start at
+IsMeantBehind pool file start end (astray at numbers) = IsAstray pool file start at numbers
+IsMeantBehind pool file start end (bad_attribute at why) = IsBadAttribute pool file start at why
 IsMeantBehind pool file start end (second_attribute at) = IsNameTwice pool file start at
 IsMeantBehind pool file start end (code_missing at) = IsWithoutCode file start at
 IsMeantBehind pool file start end fault = ⊥
@@ -145,7 +179,8 @@ IsMeant file (bytes_left at) = (at < length file) × ((c : Class) × (class_of (
 IsMeant file (cut_short at) = IsShort (length file) at
 IsMeant file (bad_text at) = IsBadText file 8 at
 IsMeant file (bad_tag at tag) = StandsAt file at (tag ∷ []) × (8 ≤ at)
-IsMeant file (bad_index at) = IsWrongAt (length file) (drop 8 file) at ⊎ IsBehindPool (λ pool start. IsAstray pool file start at) file
-IsMeant file (bad_attribute at) = IsBehindPool (λ pool start. IsNameAt pool file start at) file
+IsMeant file (bad_index at) = IsWrongAt (length file) (drop 8 file) at
+IsMeant file (astray at numbers) = IsBehindPool (λ pool start. IsAstray pool file start at numbers) file
+IsMeant file (bad_attribute at why) = IsBehindPool (λ pool start. IsBadAttribute pool file start at why) file
 IsMeant file (second_attribute at) = IsBehindPool (λ pool start. IsNameTwice pool file start at) file
 IsMeant file (code_missing at) = IsBehindPool (λ pool start. IsWithoutCode file start at) file

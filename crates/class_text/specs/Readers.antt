@@ -1,7 +1,7 @@
 -- Readers from their parts: numbers, indices, lists, and runs of a given length. One part after another is `>>=`.
 use Rattle.std.specs.Prelude.{ℕ, zero, suc, Bool, ◌==◌, nat_lt, List, [], ◌∷◌, ◌++◌, length, take, drop, Ok, Err, if◌then◌else◌}
 use Rattle.std.specs.Int.{w16, w32}
-use Rattle.class_text.specs.Reading.{cut_short, bad_index, bad_attribute, is_cut, Reading, ◌>>=◌, place, number_at, or_cut}
+use Rattle.class_text.specs.Reading.{cut_short, astray, bad_attribute, cut_within, goes_on, place_of, is_cut, Reading, ◌>>=◌, place, number_at, or_cut}
 
 -- what stands at the front of bytes that go on to an end
 abbrev pub Reader : Type 0 → Type 0
@@ -21,7 +21,7 @@ u4_at end bytes = or_cut (place end bytes) (number_at w32 bytes)
 -- an index that leads where it may
 unfoldable pub index_at : (ℕ → Bool) → Reader ℕ
 index_at leads end bytes =
-    u2_at end bytes >>= (λ n. if leads n.0 then Ok n else Err (bad_index (place end bytes)))
+    u2_at end bytes >>= (λ n. if leads n.0 then Ok n else Err (astray (place end bytes) leads))
 
 -- so many items, each of which is read knowing those before it
 unfoldable pub many_after : {A : Type 0} → (List A → Reader A) → List A → ℕ → Reader (List A)
@@ -46,12 +46,14 @@ unfoldable pub run_at : ℕ → Reader (List ℕ)
 run_at len end bytes =
     if nat_lt (length bytes) len then Err (cut_short (place end bytes)) else Ok (take len bytes, drop len bytes)
 
--- What was read of the content of an attribute is all of it. Where it isn't, or the content is cut, the attribute is
--- bad.
-unfoldable pub whole : {A : Type 0} → ℕ → List ℕ → Reading A → Reading A
-whole at rest (Ok found) = if length found.1 == 0 then Ok (found.0, rest) else Err (bad_attribute at)
-whole at rest (Err fault) = Err (if is_cut fault then bad_attribute at else fault)
+-- What was read of the content of an attribute, which ends at a stop, is all of it. Where it isn't, or the content is
+-- cut, the attribute is bad.
+unfoldable pub whole : {A : Type 0} → ℕ → ℕ → List ℕ → Reading A → Reading A
+whole at stop rest (Ok found) =
+    if length found.1 == 0 then Ok (found.0, rest) else Err (bad_attribute at (goes_on (place stop found.1) stop))
+whole at stop rest (Err fault) = Err (if is_cut fault then bad_attribute at (cut_within (place_of fault) stop) else fault)
 
 -- The content of an attribute at a place is taken whole before it is looked at.
 unfoldable pub within : {A : Type 0} → ℕ → ℕ → Reader A → Reader A
-within at len inner end bytes = run_at len end bytes >>= (λ run. whole at run.1 (inner (place end run.1) run.0))
+within at len inner end bytes =
+    run_at len end bytes >>= (λ run. whole at (place end run.1) run.1 (inner (place end run.1) run.0))

@@ -3,15 +3,26 @@
 use Rattle.std.specs.Prelude.{ℕ, ◌-◌, ◌<◌, ◌^◌, Bool, true, false, List, length, take, drop, Option, Some, None, Result, Ok, Err, nat_lt, slice_index, if◌then◌else◌}
 use Rattle.std.specs.Int.{Width, byte_len, from_be_bytes}
 
--- a bad place, with its cause
+-- Why an attribute is bad (JVMS 4.7): its content is cut at a place within it, or goes on behind its last item, which
+-- ends at a place within it, and ends itself at a later one; its code has this length, which code may not have; a value of
+-- its annotations is too deep; it is code where none may be.
+pub data Badness : Type 0 where
+  cut_within : ℕ → ℕ → Badness
+  goes_on : ℕ → ℕ → Badness
+  bad_length : ℕ → Badness
+  too_deep : Badness
+  barred_code : Badness
+
+-- A bad place, with its cause. An index behind the pool that is astray comes with the numbers that may stand there.
 pub data Fault : Type 0 where
   cut_short : ℕ → Fault
   bad_tag : ℕ → ℕ → Fault
   bad_text : ℕ → Fault
   bad_index : ℕ → Fault
+  astray : ℕ → (ℕ → Bool) → Fault
   bad_magic : Fault
   bad_major : ℕ → Fault
-  bad_attribute : ℕ → Fault
+  bad_attribute : ℕ → Badness → Fault
   second_attribute : ℕ → Fault
   code_missing : ℕ → Fault
   bytes_left : ℕ → Fault
@@ -22,9 +33,10 @@ place_of (cut_short at) = at
 place_of (bad_tag at tag) = at
 place_of (bad_text at) = at
 place_of (bad_index at) = at
+place_of (astray at leads) = at
 place_of bad_magic = 0
 place_of (bad_major version) = 6
-place_of (bad_attribute at) = at
+place_of (bad_attribute at why) = at
 place_of (second_attribute at) = at
 place_of (code_missing at) = at
 place_of (bytes_left at) = at

@@ -45,10 +45,11 @@ pub fn class_place_law()
 
 /// What each fault says of the bytes at its place: the magic and the major version there are others; a text there isn't
 /// modified UTF-8; the byte there is that tag; the index there is the count of the pool, which is 0, or that of the first
-/// constant that leads elsewhere, or stands behind the pool and doesn't lead to what is wanted; the name of an attribute
-/// stands there, and where it is a second one, right behind attributes of which one has this known name; the method
-/// there lacks its code; a whole class stands before. Where 2^32 bytes follow a cut, whatever they are, nothing is cut
-/// there or before.
+/// constant that leads elsewhere, or stands behind the pool and isn't one of the numbers that the reading looks for there,
+/// which are those of what is wanted; the name of an attribute stands there, with what is wrong with its content, or that
+/// no code may stand there; the name of a second attribute stands there, right behind attributes of which one has this
+/// known name; the method there lacks its code; a whole class stands before. Where 2^32 bytes follow a cut, whatever they
+/// are, nothing is cut there or before.
 pub fn class_fault_law()
     ensures says { (file : List ℕ) (fault : Fault) → IsBytes file → class_of file ≡ Err fault → IsMeant file fault }
     ensures lengthened { (bytes more : List ℕ) (at next : ℕ) → IsBytes bytes → IsBytes (bytes ++ more) → 2 ^ 32 ≤ length more
