@@ -8,7 +8,7 @@ use Rattle.class_model.specs.declared.attribute_forms.Attribute.{Attribute}
 use Rattle.class_model.specs.Attributes.{Place, in_class, in_field, in_method, in_code, is_known, attribute_name}
 use Rattle.class_text.specs.Attributes.{is_first, own_name}
 use Rattle.class_read.specs.Stands.{is_among, Keeps}
-use Rattle.class_read.specs.declared.stands.Found.{Found}
+use Rattle.class_read.specs.declared.stands.SeenAttributes.{SeenAttributes}
 
 -- a known name stands there where it is among the names
 known_once : (place : Place) (names : List (List ℕ)) (a : List ℕ) → is_known place a ≡ true → list_any (λ e. is_known place e && bytes_eq e a) names ≡ is_among names a
@@ -66,7 +66,7 @@ other_known in_method text k o = last (codes "Code") k o
     ]
 other_known in_code text k o = absurd (let h : false ≡ true = rw o at k in cc)
 
-pub first_own : (pool : Pool) (place : Place) (found : Found) (text : List ℕ) → Keeps pool place found → bytes_eq text (own_name place) ≡ true
+pub first_own : (pool : Pool) (place : Place) (found : SeenAttributes) (text : List ℕ) → Keeps pool place found → bytes_eq text (own_name place) ≡ true
     → not found.own ≡ is_first (is_known place) bytes_eq (map (attribute_name pool) found.list) text
 unfolding is_first
 first_own pool place found text keeps is =
@@ -74,7 +74,7 @@ first_own pool place found text keeps is =
     ap not (keeps.own ∙ sym (known_once place (map (attribute_name pool) found.list) (own_name place) (own_is_known place)))
     ∙ ap (λ (t : List ℕ). not (list_any (λ e. is_known place e && bytes_eq e t) (map (attribute_name pool) found.list))) (sym same)
 
-pub first_annotations : (pool : Pool) (place : Place) (found : Found) (text : List ℕ) → Keeps pool place found → bytes_eq text (own_name place) ≡ false → is_known place text ≡ true
+pub first_annotations : (pool : Pool) (place : Place) (found : SeenAttributes) (text : List ℕ) → Keeps pool place found → bytes_eq text (own_name place) ≡ false → is_known place text ≡ true
     → not found.annotations ≡ is_first (is_known place) bytes_eq (map (attribute_name pool) found.list) text
 unfolding is_first
 first_annotations pool place found text keeps isnt known =

@@ -7,10 +7,10 @@ ghost use Rattle.class_text.specs.Elements.{is_constant_tag, pair_by, note_by, e
 ghost use Rattle.class_read.specs.Faults.{Gives};
 
 use crate::class_fault::ClassFault;
-use crate::numbers::{place_of, u1_in, u2_in};
+use crate::numbers::{u1_in, u2_in};
 use crate::targets::{Target, index_in};
 use class_model::{Element, Elements, GREATEST_DEPTH, Note, Notes, Pair, Pairs};
-use const_pool::JudgedPool;
+use const_pool::{JudgedPool, offset_of};
 use sqlite_items::Items;
 use std::alloc::Global;
 
@@ -58,7 +58,7 @@ fn element_in<'a>(
         pool,
         at,
         depth - 1,
-        place_of(end, bytes),
+        offset_of(end, bytes),
         tag,
         end,
         rest,

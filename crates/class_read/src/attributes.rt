@@ -7,16 +7,16 @@ ghost use Rattle.class_text.specs.Readers.{index_at, many_at, many_after, counte
 ghost use Rattle.class_text.specs.Attributes.{handler_at, leads_to_loadable, bootstrap_at, other_at, stack_map_at, constant_value_at, bootstraps_at, annotations_at, code_content_at, named_at, code_attribute_at, code_attributes_at, code_bytes_at, code_at, own_content_at, content_at, attribute_at, attributes_at};
 ghost use Rattle.class_model.specs.Attributes.{in_code};
 ghost use Rattle.class_read.specs.Faults.{Gives};
-ghost use Rattle.class_read.specs.Stands.{place_of as stand_of, Keeps};
+ghost use Rattle.class_read.specs.Stands.{stand_of, Keeps};
 
 use crate::annotations::annotations_in;
 use crate::class_fault::ClassFault;
 use crate::frames::frames_in;
-use crate::numbers::{place_of, run_in, u2_in, u4_in};
-use crate::stands::{Found, Stand, is_known, own_name};
+use crate::numbers::{run_in, u2_in, u4_in};
+use crate::stands::{SeenAttributes, Stand, is_known, own_name};
 use crate::targets::{Target, index_in};
 use class_model::{Attribute, Attributes, Bootstrap, Bootstraps, Handler, Handlers, Indices};
-use const_pool::JudgedPool;
+use const_pool::{JudgedPool, offset_of};
 use sqlite_items::Items;
 use std::alloc::Global;
 
@@ -295,7 +295,7 @@ fn named_in<'a>(
     pool: &JudgedPool,
     stand: Stand<'_>,
     barred: bool,
-    found: &Found,
+    found: &SeenAttributes,
     end: u32,
     bytes: &'a [u8],
 ) -> Result<(u16, &'a [u8]), ClassFault>
@@ -305,10 +305,10 @@ fn named_in<'a>(
     let (name, rest) = index_in(pool, Target::Text, end, bytes)?;
     let text = pool.as_pool().text_or_empty(name);
     if !found.is_first(pool, stand, text) {
-        return Err(ClassFault::SecondAttribute(place_of(end, bytes)));
+        return Err(ClassFault::SecondAttribute(offset_of(end, bytes)));
     }
     if barred && is_named(text, b"Code") {
-        return Err(ClassFault::BadAttribute(place_of(end, bytes)));
+        return Err(ClassFault::BadAttribute(offset_of(end, bytes)));
     }
     Ok((name, rest))
 }
@@ -317,18 +317,18 @@ fn named_in<'a>(
 fn code_attribute_in<'a>(
     alloc: Global,
     pool: &JudgedPool,
-    found: &Found,
+    found: &SeenAttributes,
     end: u32,
     bytes: &'a [u8],
 ) -> Result<(Attribute, &'a [u8]), ClassFault>
     requires { Keeps pool.now in_code found.now }
     ensures { Gives (λ r. (r.0, r.1.now)) result (code_attribute_at pool.now found.now.list end bytes.now) }
 {
-    let at = place_of(end, bytes);
+    let at = offset_of(end, bytes);
     let (name, rest) = named_in(pool, Stand::Code, false, found, end, bytes)?;
     let (len, rest) = u4_in(end, rest)?;
     let (content, rest) = run_in(end, len as usize, rest)?;
-    let read = code_content_in(alloc, pool, name, at, place_of(end, rest), content);
+    let read = code_content_in(alloc, pool, name, at, offset_of(end, rest), content);
     whole(at, rest, read)
 }
 
@@ -342,7 +342,7 @@ fn some_code_attributes_in<'a>(
 ) -> Result<(Attributes, &'a [u8]), ClassFault>
     ensures { Gives (λ r. (r.0, r.1.now)) result (many_after (code_attribute_at pool.now) [] count end bytes.now) }
 {
-    let mut found = Found::new(alloc, count, bytes)?;
+    let mut found = SeenAttributes::new(alloc, count, bytes)?;
     let mut rest = bytes;
     for i in 0..count {
         match code_attribute_in(alloc, pool, &found, end, rest) {
@@ -461,18 +461,18 @@ fn attribute_in<'a>(
     pool: &JudgedPool,
     stand: Stand<'_>,
     barred: bool,
-    found: &Found,
+    found: &SeenAttributes,
     end: u32,
     bytes: &'a [u8],
 ) -> Result<(Attribute, &'a [u8]), ClassFault>
     requires { Keeps pool.now (stand_of stand) found.now }
     ensures { Gives (λ r. (r.0, r.1.now)) result (attribute_at pool.now (stand_of stand.entry) barred found.now.list end bytes.now) }
 {
-    let at = place_of(end, bytes);
+    let at = offset_of(end, bytes);
     let (name, rest) = named_in(pool, stand, barred, found, end, bytes)?;
     let (len, rest) = u4_in(end, rest)?;
     let (content, rest) = run_in(end, len as usize, rest)?;
-    let read = content_in(alloc, pool, stand, name, at, place_of(end, rest), content);
+    let read = content_in(alloc, pool, stand, name, at, offset_of(end, rest), content);
     whole(at, rest, read)
 }
 
@@ -488,7 +488,7 @@ fn some_attributes_in<'a>(
 ) -> Result<(Attributes, &'a [u8]), ClassFault>
     ensures { Gives (λ r. (r.0, r.1.now)) result (many_after (attribute_at pool.now (stand_of stand.entry) barred) [] count end bytes.now) }
 {
-    let mut found = Found::new(alloc, count, bytes)?;
+    let mut found = SeenAttributes::new(alloc, count, bytes)?;
     let mut rest = bytes;
     for i in 0..count {
         match attribute_in(alloc, pool, stand, barred, &found, end, rest) {

@@ -16,11 +16,11 @@ ghost use Rattle.class_read.specs.Faults.{Gives, IsOf, Fails, IsOkUnlessMemory};
 use crate::attributes::attributes_in;
 use crate::class_fault::ClassFault;
 use crate::members::{fields_in, methods_in};
-use crate::numbers::{place_of, u2_in, u4_in};
+use crate::numbers::{u2_in, u4_in};
 use crate::stands::Stand;
 use crate::targets::{Target, index_in};
 use class_model::{Class, Indices, MAGIC};
-use const_pool::{JudgedPool, PoolFault, read_pool};
+use const_pool::{JudgedPool, PoolFault, offset_of, read_pool};
 use sqlite_items::Items;
 use std::alloc::Global;
 
@@ -159,7 +159,7 @@ fn class_in(alloc: Global, file: &[u8]) -> Result<(Class, &[u8]), ClassFault>
     let end = file.len() as u32;
     let (minor, rest) = minor_in(end, file)?;
     let (major, rest) = major_in(end, rest)?;
-    match pool_in(alloc, file, place_of(end, rest)) {
+    match pool_in(alloc, file, offset_of(end, rest)) {
         Ok((pool, behind)) => behind_pool_in(alloc, minor, major, pool, end, behind),
         Err(fault) => Err(fault),
     }
@@ -173,7 +173,7 @@ fn whole_class_in(alloc: Global, file: &[u8]) -> Result<Class, ClassFault>
 {
     let (class, rest) = class_in(alloc, file)?;
     if !rest.is_empty() {
-        return Err(ClassFault::BytesLeft(place_of(file.len() as u32, rest)));
+        return Err(ClassFault::BytesLeft(offset_of(file.len() as u32, rest)));
     }
     Ok(class)
 }

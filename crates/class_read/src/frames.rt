@@ -6,10 +6,10 @@ ghost use Rattle.class_text.specs.Frames.{typed_at, frame_type_at, with_item_at,
 ghost use Rattle.class_read.specs.Faults.{Gives};
 
 use crate::class_fault::ClassFault;
-use crate::numbers::{place_of, u1_in, u2_in};
+use crate::numbers::{u1_in, u2_in};
 use crate::targets::{Target, index_in};
 use class_model::{FrameType, FrameTypes, StackFrame, StackFrames};
-use const_pool::JudgedPool;
+use const_pool::{JudgedPool, offset_of};
 use sqlite_items::Items;
 use std::alloc::Global;
 
@@ -47,7 +47,7 @@ fn frame_type_in<'a>(
     ensures { Gives (λ r. (r.0, r.1.now)) result (frame_type_at pool.now end bytes.now) }
 {
     let (tag, rest) = u1_in(end, bytes)?;
-    typed_in(pool, place_of(end, bytes), tag, end, rest)
+    typed_in(pool, offset_of(end, bytes), tag, end, rest)
 }
 
 /// So many types.
@@ -228,7 +228,7 @@ fn frame_in<'a>(
     ensures { Gives (λ r. (r.0, r.1.now)) result (frame_at pool.now end bytes.now) }
 {
     let (tag, rest) = u1_in(end, bytes)?;
-    framed_in(alloc, pool, place_of(end, bytes), tag, end, rest)
+    framed_in(alloc, pool, offset_of(end, bytes), tag, end, rest)
 }
 
 /// So many frames.

@@ -9,11 +9,11 @@ ghost use Rattle.class_read.specs.Entered.{IsEntered};
 
 use crate::attributes::attributes_in;
 use crate::class_fault::ClassFault;
-use crate::numbers::{place_of, u2_in};
+use crate::numbers::u2_in;
 use crate::stands::Stand;
 use crate::targets::{Target, index_in};
 use class_model::{Member, Members, has_code, is_bare, is_static};
-use const_pool::{JudgedPool, MemberKeys, items_with_room};
+use const_pool::{JudgedPool, MemberKeys, items_with_room, offset_of};
 use std::alloc::{AllocError, Global};
 
 /// The members before one, and their names and descriptors.
@@ -73,10 +73,10 @@ fn field_type_in<'a, 'p>(
 {
     let (number, rest) = u2_in(end, bytes)?;
     if !pool.is_field_type(number) {
-        return Err(ClassFault::BadIndex(place_of(end, bytes)));
+        return Err(ClassFault::BadIndex(offset_of(end, bytes)));
     }
     if !before.enter(pool, name, number)? {
-        return Err(ClassFault::BadIndex(place_of(end, bytes)));
+        return Err(ClassFault::BadIndex(offset_of(end, bytes)));
     }
     Ok((number, rest))
 }
@@ -98,10 +98,10 @@ fn method_type_in<'a, 'p>(
 {
     let (number, rest) = u2_in(end, bytes)?;
     if !pool.is_method_type(is_static(flags), number) {
-        return Err(ClassFault::BadIndex(place_of(end, bytes)));
+        return Err(ClassFault::BadIndex(offset_of(end, bytes)));
     }
     if !before.enter(pool, name, number)? {
-        return Err(ClassFault::BadIndex(place_of(end, bytes)));
+        return Err(ClassFault::BadIndex(offset_of(end, bytes)));
     }
     Ok((number, rest))
 }
@@ -154,7 +154,7 @@ fn method_in<'a, 'p>(
     let barred = is_bare(flags);
     let (attributes, rest) = attributes_in(alloc, pool, Stand::Method, barred, end, rest)?;
     if !barred && !has_code(attributes.as_slice()) {
-        return Err(ClassFault::CodeMissing(place_of(end, bytes)));
+        return Err(ClassFault::CodeMissing(offset_of(end, bytes)));
     }
     let method = Member {
         flags,

@@ -1,19 +1,11 @@
 //! Numbers and indices at the front of bytes that go on to an end.
 
 ghost use Rattle.std.specs.Prelude.{◌≡◌, Ok, Err};
-ghost use Rattle.class_text.specs.Reading.{place};
 ghost use Rattle.class_text.specs.Readers.{u1_at, u2_at, u4_at, run_at};
 ghost use Rattle.class_read.specs.Faults.{Gives};
 
 use crate::class_fault::ClassFault;
-
-/// The offset of bytes that go on to the end.
-pub(crate) fn place_of(end: u32, bytes: &[u8]) -> u32
-    ensures { result ≡ place end bytes.now }
-{
-    let left = bytes.len().min(end as usize);
-    end - left as u32
-}
+use const_pool::offset_of;
 
 #[tactic(auto, unfolding(class_text::specs::Readers::u1_at))]
 pub(crate) fn u1_in(end: u32, bytes: &[u8]) -> Result<(u8, &[u8]), ClassFault>
@@ -21,7 +13,7 @@ pub(crate) fn u1_in(end: u32, bytes: &[u8]) -> Result<(u8, &[u8]), ClassFault>
 {
     match bytes.split_first() {
         Some((number, rest)) => Ok((*number, rest)),
-        None => Err(ClassFault::CutShort(place_of(end, bytes))),
+        None => Err(ClassFault::CutShort(offset_of(end, bytes))),
     }
 }
 
@@ -31,7 +23,7 @@ pub(crate) fn u2_in(end: u32, bytes: &[u8]) -> Result<(u16, &[u8]), ClassFault>
 {
     match const_pool::u2_in(bytes) {
         Some(found) => Ok(found),
-        None => Err(ClassFault::CutShort(place_of(end, bytes))),
+        None => Err(ClassFault::CutShort(offset_of(end, bytes))),
     }
 }
 
@@ -41,7 +33,7 @@ pub(crate) fn u4_in(end: u32, bytes: &[u8]) -> Result<(u32, &[u8]), ClassFault>
 {
     match const_pool::u4_in(bytes) {
         Some(found) => Ok(found),
-        None => Err(ClassFault::CutShort(place_of(end, bytes))),
+        None => Err(ClassFault::CutShort(offset_of(end, bytes))),
     }
 }
 
@@ -51,7 +43,7 @@ pub(crate) fn run_in(end: u32, len: usize, bytes: &[u8]) -> Result<(&[u8], &[u8]
     ensures { Gives (λ r. (r.0.now, r.1.now)) result (run_at len end bytes.now) }
 {
     if bytes.len() < len {
-        return Err(ClassFault::CutShort(place_of(end, bytes)));
+        return Err(ClassFault::CutShort(offset_of(end, bytes)));
     }
     let (run, rest) = bytes.split_at(len);
     Ok((run, rest))

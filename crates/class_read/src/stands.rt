@@ -3,7 +3,7 @@
 ghost use Rattle.std.specs.Prelude.{◌≡◌, ◌++◌, ◌∷◌, [], ◌&&◌, bytes_eq, codes, map, OnOk};
 ghost use Rattle.class_model.specs.Attributes.{is_known, attribute_name};
 ghost use Rattle.class_text.specs.Attributes.{is_first, own_name};
-ghost use Rattle.class_read.specs.Stands.{place_of, Keeps};
+ghost use Rattle.class_read.specs.Stands.{stand_of, Keeps};
 
 use class_model::{Attribute, Attributes};
 use const_pool::{JudgedPool, items_with_room};
@@ -20,7 +20,7 @@ pub(crate) enum Stand<'a> {
 
 /// The name that is known there alone.
 pub(crate) fn own_name(stand: Stand<'_>) -> &'static [u8]
-    ensures { result.now ≡ own_name (place_of stand.entry) }
+    ensures { result.now ≡ own_name (stand_of stand.entry) }
 {
     match stand {
         Stand::Class => b"BootstrapMethods",
@@ -38,7 +38,7 @@ fn is_annotations(text: &[u8]) -> bool
 
 #[tactic(auto, unfolding(class_model::specs::Attributes::is_known))]
 pub(crate) fn is_known(stand: Stand<'_>, text: &[u8]) -> bool
-    ensures { result ≡ is_known (place_of stand.entry) text.now }
+    ensures { result ≡ is_known (stand_of stand.entry) text.now }
 {
     match stand {
         Stand::Class => text == b"BootstrapMethods".as_slice() || is_annotations(text),
@@ -50,26 +50,26 @@ pub(crate) fn is_known(stand: Stand<'_>, text: &[u8]) -> bool
 
 /// The attributes that were read so far, and whether the two known names are among theirs.
 #[derive(Drop)]
-pub(crate) struct Found {
+pub(crate) struct SeenAttributes {
     pub(crate) list: Attributes,
     own: bool,
     annotations: bool,
 }
 
-impl Found {
+impl SeenAttributes {
     ghost use Rattle.std.specs.Prelude.{◌≡◌, ◌++◌, ◌∷◌, [], bytes_eq, map, IfOk, OnOk};
     ghost use Rattle.class_model.specs.declared.constant_pool.Pool.{Pool};
     ghost use Rattle.class_model.specs.Attributes.{Place, is_known, attribute_name};
     ghost use Rattle.class_text.specs.Attributes.{is_first};
-    ghost use Rattle.class_read.specs.Stands.{place_of, Keeps};
+    ghost use Rattle.class_read.specs.Stands.{stand_of, Keeps};
 
     /// No attributes, with room for so many that stand at the front of bytes.
-    pub(crate) fn new(alloc: Global, count: u16, bytes: &[u8]) -> Result<Found, AllocError>
+    pub(crate) fn new(alloc: Global, count: u16, bytes: &[u8]) -> Result<SeenAttributes, AllocError>
         ensures none { IfOk result (λ found. found.list ≡ []) }
         ensures keeps { IfOk result (λ found. (pool : Pool) (place : Place) → Keeps pool place found) }
     {
         let list = items_with_room(alloc, count, bytes.len(), 6)?;
-        Ok(Found {
+        Ok(SeenAttributes {
             list,
             own: false,
             annotations: false,
@@ -78,8 +78,8 @@ impl Found {
 
     /// Whether no attribute of a known name stands there yet.
     pub(crate) fn is_first(&self, pool: &JudgedPool, stand: Stand<'_>, text: &[u8]) -> bool
-        requires { Keeps pool.now (place_of stand) self.now }
-        ensures { result ≡ is_first (is_known (place_of stand.entry)) bytes_eq (map (attribute_name pool.now) self.now.list) text.now }
+        requires { Keeps pool.now (stand_of stand) self.now }
+        ensures { result ≡ is_first (is_known (stand_of stand.entry)) bytes_eq (map (attribute_name pool.now) self.now.list) text.now }
     {
         if text == own_name(stand) {
             return !self.own;
@@ -96,9 +96,9 @@ impl Found {
         stand: Stand<'_>,
         attribute: Attribute,
     ) -> Result<(), AllocError>
-        requires { Keeps pool.now (place_of stand) self.old }
+        requires { Keeps pool.now (stand_of stand) self.old }
         ensures list { OnOk result (self.new.list ≡ self.old.list ++ attribute ∷ []) }
-        ensures keeps { OnOk result (Keeps pool.now (place_of stand.entry) self.new) }
+        ensures keeps { OnOk result (Keeps pool.now (stand_of stand.entry) self.new) }
     {
         let text = pool.as_pool().text_or_empty(attribute.name());
         self.own = self.own || text == own_name(stand);

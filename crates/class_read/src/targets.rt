@@ -9,8 +9,8 @@ ghost use Rattle.class_read.specs.Faults.{Gives};
 ghost use Rattle.class_read.specs.Targets.{leads_to};
 
 use crate::class_fault::ClassFault;
-use crate::numbers::{place_of, u2_in};
-use const_pool::JudgedPool;
+use crate::numbers::u2_in;
+use const_pool::{JudgedPool, offset_of};
 
 /// What an index leads to.
 #[derive(Clone, Copy)]
@@ -102,7 +102,7 @@ pub(crate) fn index_in<'a>(
 {
     let (number, rest) = u2_in(end, bytes)?;
     if !leads_to(pool, target, number) {
-        return Err(ClassFault::BadIndex(place_of(end, bytes)));
+        return Err(ClassFault::BadIndex(offset_of(end, bytes)));
     }
     Ok((number, rest))
 }

@@ -18,7 +18,7 @@ mod write_fault;
 
 pub use judged_pool::JudgedPool;
 pub use member_keys::MemberKeys;
-pub use numbers::{u2_in, u4_in, u8_in};
+pub use numbers::{offset_of, u2_in, u4_in, u8_in};
 pub use pool_fault::PoolFault;
 pub use pool_reader::read_pool;
 pub use pool_writer::{put_u2, put_u4, write_pool};

@@ -1,8 +1,16 @@
-//! Big-endian numbers at the front of bytes.
+//! Big-endian numbers at the front of bytes, and the offset of bytes.
 
 ghost use Rattle.std.specs.Prelude.{◌≡◌, option_map};
 ghost use Rattle.std.specs.Int.{w16, w32, w64};
-ghost use Rattle.class_text.specs.Reading.{number_at};
+ghost use Rattle.class_text.specs.Reading.{number_at, place};
+
+/// The offset of bytes that go on to the end.
+pub fn offset_of(end: u32, bytes: &[u8]) -> u32
+    ensures { result ≡ place end bytes.now }
+{
+    let left = bytes.len().min(end as usize);
+    end - left as u32
+}
 
 /// The u2 at the front, and the bytes after it.
 pub fn u2_in(bytes: &[u8]) -> Option<(u16, &[u8])>

@@ -5,14 +5,13 @@ ghost use Rattle.std.specs.List.{flat_map};
 ghost use Rattle.class_model.specs.declared.constant_pool.Pool.{Pool};
 ghost use Rattle.class_model.specs.Constants.{takes_two, IsPool};
 ghost use Rattle.class_model.specs.Spelling as spelling;
-ghost use Rattle.class_text.specs.Reading.{place};
 ghost use Rattle.class_text.specs.Pool.{of_two, handle_at, fixed_at, is_tag, is_wide, utf8_at, constant_at, constants_at, wrong_at, judged, pool_at};
 ghost use Rattle.class_text.specs.Meanings.{IsMeantInPool};
 ghost use Rattle.const_pool.specs.TextForms.{IsTableOf};
 ghost use Rattle.const_pool.specs.Faults.{Gives, IsOf, Fails, IsOkUnlessMemory, behind};
 
 use crate::judged_pool::JudgedPool;
-use crate::numbers::{u2_in, u4_in, u8_in};
+use crate::numbers::{offset_of, u2_in, u4_in, u8_in};
 use crate::pool_fault::PoolFault;
 use crate::room::items_with_room;
 use crate::tags::{
@@ -115,14 +114,6 @@ fn fixed_in(tag: u8, bytes: &[u8]) -> Option<(Constant, &[u8])>
     ref_in(tag, bytes)
 }
 
-/// The offset of bytes that go on to the end.
-fn place_of(end: u32, bytes: &[u8]) -> u32
-    ensures { result ≡ place end bytes.now }
-{
-    let left = bytes.len().min(end as usize);
-    end - left as u32
-}
-
 /// A text behind its length, of the constant at a place.
 #[tactic(auto, unfolding(class_text::specs::Pool::utf8_at))]
 fn utf8_in(alloc: Global, at: u32, bytes: &[u8]) -> Result<(Constant, &[u8]), PoolFault>
@@ -171,7 +162,7 @@ fn constant_in(
 ) -> Result<(Constant, &[u8]), PoolFault>
     ensures { Gives (λ r. (r.0, r.1.now)) result (constant_at end left bytes.now) }
 {
-    let at = place_of(end, bytes);
+    let at = offset_of(end, bytes);
     let Some((tag, rest)) = bytes.split_first() else {
         return Err(PoolFault::CutShort(at));
     };
@@ -309,7 +300,7 @@ fn pool_in(alloc: Global, end: u32, bytes: &[u8]) -> Result<(JudgedPool, &[u8]),
     requires { length bytes.now ≤ end }
     ensures { Gives (λ r. (r.0, r.1.now)) result (pool_at end bytes.now) }
 {
-    let at = place_of(end, bytes);
+    let at = offset_of(end, bytes);
     let Some((count, rest)) = u2_in(bytes) else {
         return Err(PoolFault::CutShort(at));
     };
@@ -317,7 +308,7 @@ fn pool_in(alloc: Global, end: u32, bytes: &[u8]) -> Result<(JudgedPool, &[u8]),
         return Err(PoolFault::BadIndex(at));
     }
     match constants_in(alloc, end, count - 1, rest) {
-        Ok((constants, after)) => judge(alloc, place_of(end, rest), Pool { constants }, after),
+        Ok((constants, after)) => judge(alloc, offset_of(end, rest), Pool { constants }, after),
         Err(fault) => Err(fault),
     }
 }
@@ -340,7 +331,7 @@ pub fn read_pool(alloc: Global, bytes: &[u8], at: u32) -> Result<(JudgedPool, u3
     let end = bytes.len() as u32;
     let (_, rest) = bytes.split_at(at as usize);
     match pool_in(alloc, end, rest) {
-        Ok((pool, after)) => Ok((pool, place_of(end, after))),
+        Ok((pool, after)) => Ok((pool, offset_of(end, after))),
         Err(fault) => Err(fault),
     }
 }

@@ -32,4 +32,4 @@ pairs_in-returns n c =
 
 pub element_in-returns : goal.element_in-returns
 element_in-returns n c =
-    gives_as _ c.tagged_in.result _ _ (deeper c.args.at c.args.pool.now c.args.depth c.args.end c.args.bytes.now c.in_ok-tag.tag c.in_ok-tag.rest.now c.place_of.result c.if-depth-eq0.false c.in_ok-tag.ensures c.place_of.ensures) c.tagged_in.ensures
+    gives_as _ c.tagged_in.result _ _ (deeper c.args.at c.args.pool.now c.args.depth c.args.end c.args.bytes.now c.in_ok-tag.tag c.in_ok-tag.rest.now c.offset_of.result c.if-depth-eq0.false c.in_ok-tag.ensures c.offset_of.ensures) c.tagged_in.ensures

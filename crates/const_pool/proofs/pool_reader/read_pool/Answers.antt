@@ -11,13 +11,13 @@ pub returns-in-Ok-clause-found : goal.returns-in-Ok-clause-found
 returns-in-Ok-clause-found c =
     let bytes = c.args.bytes.now in
     let are : IsBytes bytes = λ i. omega (arith, c.type_inv.bytes i) in
-    read_found bytes c.args.at c.in-Ok.pool c.in-Ok.after.now c.place_of.result are (ap (pool_at (length bytes)) (sym c.split_at.ensures.back) ∙ c.in-Ok.ensures) c.place_of.ensures
+    read_found bytes c.args.at c.in-Ok.pool c.in-Ok.after.now c.offset_of.result are (ap (pool_at (length bytes)) (sym c.split_at.ensures.back) ∙ c.in-Ok.ensures) c.offset_of.ensures
 
 pub returns-in-Ok-clause-only : goal.returns-in-Ok-clause-only
 returns-in-Ok-clause-only c = λ q rest right spelled.
     let bytes = c.args.bytes.now in
     let are : IsBytes bytes = λ i. omega (arith, c.type_inv.bytes i) in
-    read_only bytes c.args.at c.in-Ok.pool c.in-Ok.after.now c.place_of.result q rest are (ap (pool_at (length bytes)) (sym c.split_at.ensures.back) ∙ c.in-Ok.ensures) c.place_of.ensures right spelled
+    read_only bytes c.args.at c.in-Ok.pool c.in-Ok.after.now c.offset_of.result q rest are (ap (pool_at (length bytes)) (sym c.split_at.ensures.back) ∙ c.in-Ok.ensures) c.offset_of.ensures right spelled
 
 pub returns-in-Err-clause-only : goal.returns-in-Err-clause-only
 returns-in-Err-clause-only c = λ q rest right spelled.
