@@ -13,6 +13,24 @@ use const_pool::{JudgedPool, offset_of};
 use sqlite_items::Items;
 use std::alloc::Global;
 
+/// The tags of verification types that have an index or an offset behind them; those below have nothing.
+const OBJECT_TAG: u8 = 7;
+
+const UNINITIALIZED_TAG: u8 = 8;
+
+/// The lowest tag of each form of frame; a frame of a lower tag is the same as the one before.
+const SAME_LOCALS_1_TAG: u8 = 64;
+
+const RESERVED_TAG: u8 = 128;
+
+const SAME_LOCALS_1_EXTENDED_TAG: u8 = 247;
+
+const SAME_EXTENDED_TAG: u8 = 251;
+
+const APPEND_TAG: u8 = 252;
+
+const FULL_TAG: u8 = 255;
+
 /// What stands behind the tag of a type, which stands at a place.
 #[tactic(auto, unfolding(class_text::specs::Frames::typed_at))]
 fn typed_in<'a>(
@@ -24,14 +42,14 @@ fn typed_in<'a>(
 ) -> Result<(FrameType, &'a [u8]), ClassFault>
     ensures { Gives (λ r. (r.0, r.1.now)) result (typed_at pool.now at tag end bytes.now) }
 {
-    if tag < 7 {
+    if tag < OBJECT_TAG {
         return Ok((FrameType { tag, index: 0 }, bytes));
     }
-    if tag == 7 {
+    if tag == OBJECT_TAG {
         let (index, rest) = index_in(pool, Target::Class, end, bytes)?;
         return Ok((FrameType { tag, index }, rest));
     }
-    if tag == 8 {
+    if tag == UNINITIALIZED_TAG {
         let (index, rest) = u2_in(end, bytes)?;
         return Ok((FrameType { tag, index }, rest));
     }
@@ -181,14 +199,15 @@ fn behind_delta_in<'a>(
 ) -> Result<(StackFrame, &'a [u8]), ClassFault>
     ensures { Gives (λ r. (r.0, r.1.now)) result (behind_delta_at pool.now tag delta end bytes.now) }
 {
-    if tag == 247 {
+    if tag == SAME_LOCALS_1_EXTENDED_TAG {
         return with_item_in(alloc, pool, tag, delta, end, bytes);
     }
-    if tag < 252 {
+    if tag < APPEND_TAG {
         return Ok((empty_frame(alloc, tag, delta), bytes));
     }
-    if tag < 255 {
-        return with_locals_in(alloc, pool, tag, delta, u16::from(tag) - 251, end, bytes);
+    if tag < FULL_TAG {
+        let many = u16::from(tag - SAME_EXTENDED_TAG);
+        return with_locals_in(alloc, pool, tag, delta, many, end, bytes);
     }
     full_in(alloc, pool, tag, delta, end, bytes)
 }
@@ -205,13 +224,14 @@ fn framed_in<'a>(
 ) -> Result<(StackFrame, &'a [u8]), ClassFault>
     ensures { Gives (λ r. (r.0, r.1.now)) result (framed_at pool.now at tag end bytes.now) }
 {
-    if tag < 64 {
+    if tag < SAME_LOCALS_1_TAG {
         return Ok((empty_frame(alloc, tag, u16::from(tag)), bytes));
     }
-    if tag < 128 {
-        return with_item_in(alloc, pool, tag, u16::from(tag) - 64, end, bytes);
+    if tag < RESERVED_TAG {
+        let delta = u16::from(tag - SAME_LOCALS_1_TAG);
+        return with_item_in(alloc, pool, tag, delta, end, bytes);
     }
-    if tag < 247 {
+    if tag < SAME_LOCALS_1_EXTENDED_TAG {
         return Err(ClassFault::BadTag(at, tag));
     }
     let (delta, rest) = u2_in(end, bytes)?;
