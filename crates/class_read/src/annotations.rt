@@ -7,6 +7,7 @@ ghost use Rattle.class_text.specs.Elements.{is_constant_tag, pair_by, note_by, e
 ghost use Rattle.class_read.specs.Faults.{Gives};
 
 use crate::class_fault::ClassFault;
+use crate::item_lists::{ReadItem, counted_in};
 use crate::numbers::{u1_in, u2_in};
 use crate::targets::{Target, index_in};
 use class_model::{Element, Elements, GREATEST_DEPTH, Note, Notes, Pair, Pairs};
@@ -237,33 +238,27 @@ fn annotation_in<'a>(
     note_in(alloc, pool, at, GREATEST_DEPTH, end, bytes)
 }
 
-/// So many annotations.
-fn some_annotations_in<'a>(
+/// Reads annotations of the attribute at a place.
+#[derive(Drop)]
+struct AnnotationReader<'p> {
     alloc: Global,
-    pool: &JudgedPool,
+    pool: &'p JudgedPool,
     at: u32,
-    count: u16,
-    end: u32,
-    bytes: &'a [u8],
-) -> Result<(Notes, &'a [u8]), ClassFault>
-    ensures { Gives (λ r. (r.0, r.1.now)) result (many_at (note_at at pool.now) count end bytes.now) }
-{
-    let mut items = Items::new(alloc);
-    let mut rest = bytes;
-    for i in 0..count {
-        match annotation_in(alloc, pool, at, end, rest) {
-            Ok((item, more)) => {
-                items.push(item)?;
-                rest = more;
-            }
-            Err(fault) => return Err(fault),
-        }
+}
+
+impl ReadItem for AnnotationReader<'_> {
+    ghost use Rattle.class_text.specs.Elements.{note_at};
+
+    type Item = Note;
+
+    ghost one = { λ s. note_at s.at s.pool.now };
+
+    fn read<'a>(&self, end: u32, bytes: &'a [u8]) -> Result<(Note, &'a [u8]), ClassFault> {
+        annotation_in(self.alloc, self.pool, self.at, end, bytes)
     }
-    Ok((items, rest))
 }
 
 /// The annotations of the attribute at a place, behind their count.
-#[tactic(auto, unfolding(class_text::specs::Readers::counted_after))]
 pub(crate) fn annotations_in<'a>(
     alloc: Global,
     pool: &JudgedPool,
@@ -273,6 +268,5 @@ pub(crate) fn annotations_in<'a>(
 ) -> Result<(Notes, &'a [u8]), ClassFault>
     ensures { Gives (λ r. (r.0, r.1.now)) result (counted_at (note_at at pool.now) end bytes.now) }
 {
-    let (count, rest) = u2_in(end, bytes)?;
-    some_annotations_in(alloc, pool, at, count, end, rest)
+    counted_in(alloc, &AnnotationReader { alloc, pool, at }, end, bytes)
 }

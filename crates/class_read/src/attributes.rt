@@ -3,8 +3,8 @@
 ghost use Rattle.std.specs.Prelude.{◌≡◌, ◌||◌, ◌==◌, ℕ, [], List, bytes_eq, codes, Ok, Err};
 ghost use Rattle.class_model.specs.declared.attribute_forms.Attribute.{Attribute};
 ghost use Rattle.class_text.specs.Reading.{Reading};
-ghost use Rattle.class_text.specs.Readers.{index_at, many_at, many_after, counted_at, whole};
-ghost use Rattle.class_text.specs.Attributes.{handler_at, leads_to_loadable, bootstrap_at, other_at, stack_map_at, constant_value_at, bootstraps_at, annotations_at, code_content_at, named_at, code_attribute_at, code_attributes_at, code_bytes_at, code_at, own_content_at, content_at, attribute_at, attributes_at};
+ghost use Rattle.class_text.specs.Readers.{many_after, whole};
+ghost use Rattle.class_text.specs.Attributes.{handler_at, bootstrap_at, other_at, stack_map_at, constant_value_at, bootstraps_at, annotations_at, code_content_at, named_at, code_attribute_at, code_attributes_at, code_bytes_at, code_at, own_content_at, content_at, attribute_at, attributes_at};
 ghost use Rattle.class_model.specs.Attributes.{in_code};
 ghost use Rattle.class_read.specs.Faults.{Gives};
 ghost use Rattle.class_read.specs.Stands.{stand_of, Keeps};
@@ -12,10 +12,11 @@ ghost use Rattle.class_read.specs.Stands.{stand_of, Keeps};
 use crate::annotations::annotations_in;
 use crate::class_fault::ClassFault;
 use crate::frames::frames_in;
+use crate::item_lists::{ReadItem, counted_in};
 use crate::numbers::{run_in, u2_in, u4_in};
 use crate::stands::{SeenAttributes, Stand, is_known, own_name};
-use crate::targets::{Target, index_in};
-use class_model::{Attribute, Attributes, Bootstrap, Bootstraps, Handler, Handlers, Indices};
+use crate::targets::{IndexReader, Target, index_in};
+use class_model::{Attribute, Attributes, Bootstrap, Handler};
 use const_pool::{JudgedPool, offset_of};
 use sqlite_items::Items;
 use std::alloc::Global;
@@ -41,78 +42,22 @@ fn handler_in<'a>(
     Ok((found, rest))
 }
 
-/// So many entries of an exception table.
-fn handlers_in<'a>(
-    alloc: Global,
-    pool: &JudgedPool,
-    count: u16,
-    end: u32,
-    bytes: &'a [u8],
-) -> Result<(Handlers, &'a [u8]), ClassFault>
-    ensures { Gives (λ r. (r.0, r.1.now)) result (many_at (handler_at pool.now) count end bytes.now) }
-{
-    let mut items = Items::new(alloc);
-    let mut rest = bytes;
-    for i in 0..count {
-        match handler_in(pool, end, rest) {
-            Ok((item, more)) => {
-                items.push(item)?;
-                rest = more;
-            }
-            Err(fault) => return Err(fault),
-        }
+/// Reads entries of an exception table.
+#[derive(Drop)]
+struct HandlerReader<'p> {
+    pool: &'p JudgedPool,
+}
+
+impl ReadItem for HandlerReader<'_> {
+    ghost use Rattle.class_text.specs.Attributes.{handler_at};
+
+    type Item = Handler;
+
+    ghost one = { λ s. handler_at s.pool.now };
+
+    fn read<'a>(&self, end: u32, bytes: &'a [u8]) -> Result<(Handler, &'a [u8]), ClassFault> {
+        handler_in(self.pool, end, bytes)
     }
-    Ok((items, rest))
-}
-
-#[tactic(auto, unfolding(class_text::specs::Readers::counted_after))]
-fn table_in<'a>(
-    alloc: Global,
-    pool: &JudgedPool,
-    end: u32,
-    bytes: &'a [u8],
-) -> Result<(Handlers, &'a [u8]), ClassFault>
-    ensures { Gives (λ r. (r.0, r.1.now)) result (counted_at (handler_at pool.now) end bytes.now) }
-{
-    let (count, rest) = u2_in(end, bytes)?;
-    handlers_in(alloc, pool, count, end, rest)
-}
-
-/// So many static arguments.
-fn arguments_in<'a>(
-    alloc: Global,
-    pool: &JudgedPool,
-    count: u16,
-    end: u32,
-    bytes: &'a [u8],
-) -> Result<(Indices, &'a [u8]), ClassFault>
-    ensures { Gives (λ r. (r.0, r.1.now)) result (many_at (index_at (leads_to_loadable pool.now)) count end bytes.now) }
-{
-    let mut items = Items::new(alloc);
-    let mut rest = bytes;
-    for i in 0..count {
-        match index_in(pool, Target::Loadable, end, rest) {
-            Ok((item, more)) => {
-                items.push(item)?;
-                rest = more;
-            }
-            Err(fault) => return Err(fault),
-        }
-    }
-    Ok((items, rest))
-}
-
-#[tactic(auto, unfolding(class_text::specs::Readers::counted_after))]
-fn counted_arguments_in<'a>(
-    alloc: Global,
-    pool: &JudgedPool,
-    end: u32,
-    bytes: &'a [u8],
-) -> Result<(Indices, &'a [u8]), ClassFault>
-    ensures { Gives (λ r. (r.0, r.1.now)) result (counted_at (index_at (leads_to_loadable pool.now)) end bytes.now) }
-{
-    let (count, rest) = u2_in(end, bytes)?;
-    arguments_in(alloc, pool, count, end, rest)
 }
 
 #[tactic(auto, unfolding(class_text::specs::Attributes::bootstrap_at))]
@@ -125,45 +70,31 @@ fn bootstrap_in<'a>(
     ensures { Gives (λ r. (r.0, r.1.now)) result (bootstrap_at pool.now end bytes.now) }
 {
     let (handle, rest) = index_in(pool, Target::Handle, end, bytes)?;
-    let (arguments, rest) = counted_arguments_in(alloc, pool, end, rest)?;
+    let loadable = IndexReader {
+        pool,
+        target: Target::Loadable,
+    };
+    let (arguments, rest) = counted_in(alloc, &loadable, end, rest)?;
     Ok((Bootstrap { handle, arguments }, rest))
 }
 
-/// So many bootstrap methods.
-fn bootstraps_in<'a>(
+/// Reads bootstrap methods.
+#[derive(Drop)]
+struct BootstrapReader<'p> {
     alloc: Global,
-    pool: &JudgedPool,
-    count: u16,
-    end: u32,
-    bytes: &'a [u8],
-) -> Result<(Bootstraps, &'a [u8]), ClassFault>
-    ensures { Gives (λ r. (r.0, r.1.now)) result (many_at (bootstrap_at pool.now) count end bytes.now) }
-{
-    let mut items = Items::new(alloc);
-    let mut rest = bytes;
-    for i in 0..count {
-        match bootstrap_in(alloc, pool, end, rest) {
-            Ok((item, more)) => {
-                items.push(item)?;
-                rest = more;
-            }
-            Err(fault) => return Err(fault),
-        }
-    }
-    Ok((items, rest))
+    pool: &'p JudgedPool,
 }
 
-#[tactic(auto, unfolding(class_text::specs::Readers::counted_after))]
-fn counted_bootstraps_in<'a>(
-    alloc: Global,
-    pool: &JudgedPool,
-    end: u32,
-    bytes: &'a [u8],
-) -> Result<(Bootstraps, &'a [u8]), ClassFault>
-    ensures { Gives (λ r. (r.0, r.1.now)) result (counted_at (bootstrap_at pool.now) end bytes.now) }
-{
-    let (count, rest) = u2_in(end, bytes)?;
-    bootstraps_in(alloc, pool, count, end, rest)
+impl ReadItem for BootstrapReader<'_> {
+    ghost use Rattle.class_text.specs.Attributes.{bootstrap_at};
+
+    type Item = Bootstrap;
+
+    ghost one = { λ s. bootstrap_at s.pool.now };
+
+    fn read<'a>(&self, end: u32, bytes: &'a [u8]) -> Result<(Bootstrap, &'a [u8]), ClassFault> {
+        bootstrap_in(self.alloc, self.pool, end, bytes)
+    }
 }
 
 /// An attribute that is kept by its bytes, which are all of its content.
@@ -223,7 +154,7 @@ fn bootstrap_methods_in<'a>(
 ) -> Result<(Attribute, &'a [u8]), ClassFault>
     ensures { Gives (λ r. (r.0, r.1.now)) result (bootstraps_at pool.now name end bytes.now) }
 {
-    let (entries, rest) = counted_bootstraps_in(alloc, pool, end, bytes)?;
+    let (entries, rest) = counted_in(alloc, &BootstrapReader { alloc, pool }, end, bytes)?;
     Ok((Attribute::Bootstrap { name, entries }, rest))
 }
 
@@ -399,7 +330,7 @@ fn code_in<'a>(
     let (max_stack, rest) = u2_in(end, bytes)?;
     let (max_locals, rest) = u2_in(end, rest)?;
     let (code, rest) = code_bytes_in(at, end, rest)?;
-    let (table, rest) = table_in(alloc, pool, end, rest)?;
+    let (table, rest) = counted_in(alloc, &HandlerReader { pool }, end, rest)?;
     let (attributes, rest) = code_attributes_in(alloc, pool, end, rest)?;
     let code = Attribute::Code {
         name,

@@ -3,10 +3,9 @@
 ghost use Rattle.std.specs.Prelude.{ℕ, List, ◌≡◌, ◌&&◌, ◌<◌, ◌≤◌, ◌^◌, length, drop, nat_le, Ok, Err, IfOk, IfErr};
 ghost use Rattle.class_model.specs.declared.class_file.Class.{Class};
 ghost use Rattle.class_model.specs.declared.constant_pool.Pool.{Pool};
-ghost use Rattle.class_model.specs.Shape.{Shaped, is_plain_class};
+ghost use Rattle.class_model.specs.Shape.{Shaped};
 ghost use Rattle.class_model.specs.Spelling as spelling;
 ghost use Rattle.class_text.specs.Reading.{Reading};
-ghost use Rattle.class_text.specs.Readers.{index_at, many_at, counted_at};
 ghost use Rattle.class_text.specs.Pool.{pool_at};
 ghost use Rattle.class_text.specs.Classes.{minor_at, major_at, behind_pool_at, class_at_front, class_of};
 ghost use Rattle.class_text.specs.Meanings.{IsMeant};
@@ -15,13 +14,13 @@ ghost use Rattle.class_read.specs.Faults.{Gives, IsOf, Fails, IsOkUnlessMemory};
 
 use crate::attributes::attributes_in;
 use crate::class_fault::ClassFault;
+use crate::item_lists::counted_in;
 use crate::members::{fields_in, methods_in};
 use crate::numbers::{u2_in, u4_in};
 use crate::stands::Stand;
-use crate::targets::{Target, index_in};
-use class_model::{Class, Indices, MAGIC};
+use crate::targets::{IndexReader, Target, index_in};
+use class_model::{Class, MAGIC};
 use const_pool::{JudgedPool, PoolFault, offset_of, read_pool};
-use sqlite_items::Items;
 use std::alloc::Global;
 
 /// The magic and the minor version.
@@ -78,44 +77,6 @@ fn pool_in(alloc: Global, file: &[u8], at: u32) -> Result<(JudgedPool, &[u8]), C
     }
 }
 
-/// So many numbers of classes.
-fn classes_in<'a>(
-    alloc: Global,
-    pool: &JudgedPool,
-    count: u16,
-    end: u32,
-    bytes: &'a [u8],
-) -> Result<(Indices, &'a [u8]), ClassFault>
-    ensures { Gives (λ r. (r.0, r.1.now)) result (many_at (index_at (is_plain_class pool.now)) count end bytes.now) }
-{
-    let mut items = Items::new(alloc);
-    let mut rest = bytes;
-    for i in 0..count {
-        match index_in(pool, Target::PlainClass, end, rest) {
-            Ok((item, more)) => {
-                items.push(item)?;
-                rest = more;
-            }
-            Err(fault) => return Err(fault),
-        }
-    }
-    Ok((items, rest))
-}
-
-/// The interfaces of a class, behind their count.
-#[tactic(auto, unfolding(class_text::specs::Readers::counted_after))]
-fn interfaces_in<'a>(
-    alloc: Global,
-    pool: &JudgedPool,
-    end: u32,
-    bytes: &'a [u8],
-) -> Result<(Indices, &'a [u8]), ClassFault>
-    ensures { Gives (λ r. (r.0, r.1.now)) result (counted_at (index_at (is_plain_class pool.now)) end bytes.now) }
-{
-    let (count, rest) = u2_in(end, bytes)?;
-    classes_in(alloc, pool, count, end, rest)
-}
-
 /// What stands behind the pool.
 #[tactic(auto, unfolding(class_text::specs::Classes::behind_pool_at))]
 fn behind_pool_in(
@@ -131,7 +92,11 @@ fn behind_pool_in(
     let (flags, rest) = u2_in(end, bytes)?;
     let (this_class, rest) = index_in(&pool, Target::PlainClass, end, rest)?;
     let (super_class, rest) = index_in(&pool, Target::SuperOf(this_class), end, rest)?;
-    let (interfaces, rest) = interfaces_in(alloc, &pool, end, rest)?;
+    let classes = IndexReader {
+        pool: &pool,
+        target: Target::PlainClass,
+    };
+    let (interfaces, rest) = counted_in(alloc, &classes, end, rest)?;
     let (fields, rest) = fields_in(alloc, &pool, end, rest)?;
     let (methods, rest) = methods_in(alloc, &pool, end, rest)?;
     let (attributes, rest) = attributes_in(alloc, &pool, Stand::Class, false, end, rest)?;

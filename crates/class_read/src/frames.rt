@@ -1,14 +1,15 @@
 //! Stack maps (JVMS 4.7.4).
 
 ghost use Rattle.std.specs.Prelude.{◌≡◌, [], ◌<◌, ◌-◌, Ok, Err};
-ghost use Rattle.class_text.specs.Readers.{many_at, counted_at};
+ghost use Rattle.class_text.specs.Readers.{counted_at};
 ghost use Rattle.class_text.specs.Frames.{typed_at, frame_type_at, with_item_at, with_locals_at, full_at, behind_delta_at, framed_at, frame_at};
 ghost use Rattle.class_read.specs.Faults.{Gives};
 
 use crate::class_fault::ClassFault;
+use crate::item_lists::{ReadItem, counted_in, many_in};
 use crate::numbers::{u1_in, u2_in};
 use crate::targets::{Target, index_in};
-use class_model::{FrameType, FrameTypes, StackFrame, StackFrames};
+use class_model::{FrameType, StackFrame, StackFrames};
 use const_pool::{JudgedPool, offset_of};
 use sqlite_items::Items;
 use std::alloc::Global;
@@ -68,42 +69,22 @@ fn frame_type_in<'a>(
     typed_in(pool, offset_of(end, bytes), tag, end, rest)
 }
 
-/// So many types.
-fn types_in<'a>(
-    alloc: Global,
-    pool: &JudgedPool,
-    count: u16,
-    end: u32,
-    bytes: &'a [u8],
-) -> Result<(FrameTypes, &'a [u8]), ClassFault>
-    ensures { Gives (λ r. (r.0, r.1.now)) result (many_at (frame_type_at pool.now) count end bytes.now) }
-{
-    let mut items = Items::new(alloc);
-    let mut rest = bytes;
-    for i in 0..count {
-        match frame_type_in(pool, end, rest) {
-            Ok((item, more)) => {
-                items.push(item)?;
-                rest = more;
-            }
-            Err(fault) => return Err(fault),
-        }
-    }
-    Ok((items, rest))
+/// Reads types.
+#[derive(Drop)]
+struct TypeReader<'p> {
+    pool: &'p JudgedPool,
 }
 
-/// Types behind their count.
-#[tactic(auto, unfolding(class_text::specs::Readers::counted_after))]
-fn counted_types_in<'a>(
-    alloc: Global,
-    pool: &JudgedPool,
-    end: u32,
-    bytes: &'a [u8],
-) -> Result<(FrameTypes, &'a [u8]), ClassFault>
-    ensures { Gives (λ r. (r.0, r.1.now)) result (counted_at (frame_type_at pool.now) end bytes.now) }
-{
-    let (count, rest) = u2_in(end, bytes)?;
-    types_in(alloc, pool, count, end, rest)
+impl ReadItem for TypeReader<'_> {
+    ghost use Rattle.class_text.specs.Frames.{frame_type_at};
+
+    type Item = FrameType;
+
+    ghost one = { λ s. frame_type_at s.pool.now };
+
+    fn read<'a>(&self, end: u32, bytes: &'a [u8]) -> Result<(FrameType, &'a [u8]), ClassFault> {
+        frame_type_in(self.pool, end, bytes)
+    }
 }
 
 /// A frame that writes one stack item.
@@ -118,7 +99,7 @@ fn with_item_in<'a>(
 ) -> Result<(StackFrame, &'a [u8]), ClassFault>
     ensures { Gives (λ r. (r.0, r.1.now)) result (with_item_at pool.now tag delta end bytes.now) }
 {
-    let (stack, rest) = types_in(alloc, pool, 1, end, bytes)?;
+    let (stack, rest) = many_in(alloc, &TypeReader { pool }, 1, end, bytes)?;
     let locals = Items::new(alloc);
     let frame = StackFrame {
         tag,
@@ -142,7 +123,7 @@ fn with_locals_in<'a>(
 ) -> Result<(StackFrame, &'a [u8]), ClassFault>
     ensures { Gives (λ r. (r.0, r.1.now)) result (with_locals_at pool.now tag delta many end bytes.now) }
 {
-    let (locals, rest) = types_in(alloc, pool, many, end, bytes)?;
+    let (locals, rest) = many_in(alloc, &TypeReader { pool }, many, end, bytes)?;
     let stack = Items::new(alloc);
     let frame = StackFrame {
         tag,
@@ -165,8 +146,8 @@ fn full_in<'a>(
 ) -> Result<(StackFrame, &'a [u8]), ClassFault>
     ensures { Gives (λ r. (r.0, r.1.now)) result (full_at pool.now tag delta end bytes.now) }
 {
-    let (locals, rest) = counted_types_in(alloc, pool, end, bytes)?;
-    let (stack, rest) = counted_types_in(alloc, pool, end, rest)?;
+    let (locals, rest) = counted_in(alloc, &TypeReader { pool }, end, bytes)?;
+    let (stack, rest) = counted_in(alloc, &TypeReader { pool }, end, rest)?;
     let frame = StackFrame {
         tag,
         delta,
@@ -251,32 +232,26 @@ fn frame_in<'a>(
     framed_in(alloc, pool, offset_of(end, bytes), tag, end, rest)
 }
 
-/// So many frames.
-fn some_frames_in<'a>(
+/// Reads frames.
+#[derive(Drop)]
+struct FrameReader<'p> {
     alloc: Global,
-    pool: &JudgedPool,
-    count: u16,
-    end: u32,
-    bytes: &'a [u8],
-) -> Result<(StackFrames, &'a [u8]), ClassFault>
-    ensures { Gives (λ r. (r.0, r.1.now)) result (many_at (frame_at pool.now) count end bytes.now) }
-{
-    let mut items = Items::new(alloc);
-    let mut rest = bytes;
-    for i in 0..count {
-        match frame_in(alloc, pool, end, rest) {
-            Ok((item, more)) => {
-                items.push(item)?;
-                rest = more;
-            }
-            Err(fault) => return Err(fault),
-        }
+    pool: &'p JudgedPool,
+}
+
+impl ReadItem for FrameReader<'_> {
+    ghost use Rattle.class_text.specs.Frames.{frame_at};
+
+    type Item = StackFrame;
+
+    ghost one = { λ s. frame_at s.pool.now };
+
+    fn read<'a>(&self, end: u32, bytes: &'a [u8]) -> Result<(StackFrame, &'a [u8]), ClassFault> {
+        frame_in(self.alloc, self.pool, end, bytes)
     }
-    Ok((items, rest))
 }
 
 /// The frames of a stack map, behind their count.
-#[tactic(auto, unfolding(class_text::specs::Readers::counted_after))]
 pub(crate) fn frames_in<'a>(
     alloc: Global,
     pool: &JudgedPool,
@@ -285,6 +260,5 @@ pub(crate) fn frames_in<'a>(
 ) -> Result<(StackFrames, &'a [u8]), ClassFault>
     ensures { Gives (λ r. (r.0, r.1.now)) result (counted_at (frame_at pool.now) end bytes.now) }
 {
-    let (count, rest) = u2_in(end, bytes)?;
-    some_frames_in(alloc, pool, count, end, rest)
+    counted_in(alloc, &FrameReader { alloc, pool }, end, bytes)
 }

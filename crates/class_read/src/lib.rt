@@ -9,6 +9,7 @@ mod attributes;
 mod class_fault;
 mod class_file;
 mod frames;
+mod item_lists;
 mod limits;
 mod load_fault;
 mod loading;

@@ -9,6 +9,7 @@ ghost use Rattle.class_read.specs.Faults.{Gives};
 ghost use Rattle.class_read.specs.Targets.{leads_to};
 
 use crate::class_fault::ClassFault;
+use crate::item_lists::ReadItem;
 use crate::numbers::u2_in;
 use const_pool::{JudgedPool, offset_of};
 
@@ -105,4 +106,24 @@ pub(crate) fn index_in<'a>(
         return Err(ClassFault::BadIndex(offset_of(end, bytes)));
     }
     Ok((number, rest))
+}
+
+/// Reads indices that lead to a target.
+#[derive(Drop)]
+pub(crate) struct IndexReader<'p, 't> {
+    pub(crate) pool: &'p JudgedPool,
+    pub(crate) target: Target<'t>,
+}
+
+impl ReadItem for IndexReader<'_, '_> {
+    ghost use Rattle.class_text.specs.Readers.{index_at};
+    ghost use Rattle.class_read.specs.Targets.{leads_to};
+
+    type Item = u16;
+
+    ghost one = { λ s. index_at (leads_to s.pool.now s.target) };
+
+    fn read<'a>(&self, end: u32, bytes: &'a [u8]) -> Result<(u16, &'a [u8]), ClassFault> {
+        index_in(self.pool, self.target, end, bytes)
+    }
 }

@@ -1,9 +1,0 @@
-use Rattle.std.proofs.Common.{◌≡◌, ◌-◌}
-use Rattle.class_text.specs.Readers.{many_at, many_after}
-use Rattle.class_model.specs.Shape.{is_plain_class}
-use Rattle.class_text.specs.Readers.{index_at}
-use Rattle.class_read.specs.Faults.{behind}
-use Rattle.class_read.proofs.class_file.classes_in.Given as goal
-
-abbrev pub invariant-loop-i : goal.invariant-loop-i
-invariant-loop-i l = behind l.items (many_after (λ before. index_at (is_plain_class l.pool)) l.items (l.count - l.i) l.end l.rest) ≡ many_at (index_at (is_plain_class l.pool)) l.count l.end l.bytes

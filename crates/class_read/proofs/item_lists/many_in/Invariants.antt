@@ -1,0 +1,7 @@
+use Rattle.std.proofs.Common.{◌≡◌, ◌-◌}
+use Rattle.class_text.specs.Readers.{many_at, many_after}
+use Rattle.class_read.specs.Faults.{behind}
+use Rattle.class_read.proofs.item_lists.many_in.Given as goal
+
+abbrev pub invariant-loop-i : goal.invariant-loop-i
+invariant-loop-i g l = behind l.items (many_after (λ before. g.R.ReadItem.one l.reader) l.items (l.count - l.i) l.end l.rest) ≡ many_at (g.R.ReadItem.one l.reader) l.count l.end l.bytes
