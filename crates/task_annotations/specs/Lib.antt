@@ -1,0 +1,4 @@
+pub mod Annotations
+pub mod Declarations
+pub mod Reading
+pub mod Sites
