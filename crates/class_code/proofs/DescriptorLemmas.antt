@@ -1,13 +1,12 @@
 -- The kinds of a method's parameters are read one after another.
-use Rattle.std.proofs.Common.{◌≡◌, ℕ, zero, suc, eqb, ◌<◌, ◌≤◌, false, List, [], ◌∷◌, ◌++◌, length, filter_map, Option, Some, None, option_map, option_and_then, refl, sym, ◌∙◌, ap, inl, inr, arith, append_assoc, append-nil}
+use Rattle.std.proofs.Common.{◌≡◌, ℕ, zero, suc, ◌<◌, ◌≤◌, false, List, [], ◌∷◌, ◌++◌, length, filter_map, Option, Some, None, option_map, option_and_then, refl, sym, ◌∙◌, ap, arith, append_assoc, append-nil}
 use Rattle.std.specs.Option.{option_to_list}
 use Rattle.std.specs.List.{cons_option}
-use Rattle.std.proofs.lemmas.Bool.{cases_Bool, ne_eqb}
 use Rattle.jvm_tables.specs.declared.instruction.ValueKind.{ValueKind}
 use Rattle.jvm_tables.specs.declared.instruction.ValueKind.TheVariants.{Reference}
 use Rattle.class_model.specs.Descriptors.{FieldType, array, field_type_at, field_types_at, with_first, behind, return_type, MethodType}
 use Rattle.class_model.specs.TypeForms.{arrays}
-use Rattle.class_model.proofs.Parameters.{then_types, types_end, types_step, types_of, shorter}
+use Rattle.class_model.proofs.Parameters.{then_types, types_end, types_of, shorter, enough, step}
 use Rattle.class_code.specs.Types.{kind, Signature, signature, after, object_name, result_of, read}
 use Rattle.class_code.specs.Sites.{is_object, is_string}
 use Rattle.class_code.specs.declared.types.Returned.{Returned}
@@ -33,31 +32,6 @@ array-is_string = array_at is_string false (λ t. refl)
 
 abbrev taken_of : List FieldType → List ValueKind
 taken_of = filter_map kind
-
--- Two readers that agree on what is shorter go on alike.
-then_same : (one_reader other : List ℕ → Option (List FieldType × List ℕ)) (bytes : List ℕ) (found : Option (FieldType × List ℕ))
-    → ((t : FieldType) (rest : List ℕ) → found ≡ Some (t, rest) → length rest < length bytes)
-    → ((rest : List ℕ) → length rest < length bytes → one_reader rest ≡ other rest) → then_types one_reader found ≡ then_types other found
-then_same one_reader other bytes None within same = refl
-then_same one_reader other bytes (Some (t, rest)) within same = ap (option_map (with_first t)) (same rest (within t rest refl))
-
--- more rounds than there are bytes change nothing
-enough : (few more : ℕ) (bytes : List ℕ) → length bytes ≤ few → length bytes ≤ more → field_types_at few bytes ≡ field_types_at more bytes
-unfolding field_types_at
-enough zero zero bytes p q = refl
-enough zero (suc more) [] p q = refl
-enough zero (suc more) (b ∷ bytes) p q = absurd (omega arith)
-enough (suc few) zero [] p q = refl
-enough (suc few) zero (b ∷ bytes) p q = absurd (omega arith)
-enough (suc few) (suc more) [] p q = refl
-enough (suc few) (suc more) (b ∷ bytes) p q = elim (cases_Bool (eqb b 41)) [
-  | inl y ↦ rw y refl
-  | inr f ↦ rw f (then_same (field_types_at few) (field_types_at more) (b ∷ bytes) (field_type_at (b ∷ bytes)) (shorter (b ∷ bytes)) (λ rest less. enough few more rest (omega arith) (omega arith)))
-]
-
--- the step at bytes that don't begin with a closing parenthesis
-step : (bytes after : List ℕ) (b : ℕ) → bytes ≡ b ∷ after → (b ≡ 41 → ⊥) → types_of bytes ≡ then_types (field_types_at (length after)) (field_type_at bytes)
-step bytes after b at not = rw at (types_step (length after) b after (ne_eqb b 41 not))
 
 abbrev reading : List ValueKind → Option MethodType → Option Signature
 reading kinds found = option_map (after kinds) (option_map signature found)

@@ -65,7 +65,7 @@ then_same read other bytes None within same = refl
 then_same read other bytes (Some (t, rest)) within same = ap (option_map (with_first t)) (same rest (within t rest refl))
 
 -- more rounds than there are bytes change nothing
-enough : (few more : ℕ) (bytes : List ℕ) → length bytes ≤ few → length bytes ≤ more → field_types_at few bytes ≡ field_types_at more bytes
+pub enough : (few more : ℕ) (bytes : List ℕ) → length bytes ≤ few → length bytes ≤ more → field_types_at few bytes ≡ field_types_at more bytes
 unfolding field_types_at
 enough zero zero bytes p q = refl
 enough zero (suc more) [] p q = refl
@@ -95,7 +95,7 @@ closing most used bytes after b at is few =
     ap (λ (l : List ℕ). are_within most used (types_of l)) (at ∙ ap (λ c. c ∷ after) is) ∙ ap (are_within most used) (types_end (length (41 ∷ after)) after) ∙ end_within most used after few
 
 -- the step at bytes that don't begin with a closing parenthesis
-step : (bytes after : List ℕ) (b : ℕ) → bytes ≡ b ∷ after → (b ≡ 41 → ⊥) → types_of bytes ≡ then_types (field_types_at (length after)) (field_type_at bytes)
+pub step : (bytes after : List ℕ) (b : ℕ) → bytes ≡ b ∷ after → (b ≡ 41 → ⊥) → types_of bytes ≡ then_types (field_types_at (length after)) (field_type_at bytes)
 step bytes after b at not = rw at (types_step (length after) b after (ne_eqb b 41 not))
 
 pub none_there : (most used : ℕ) (bytes after : List ℕ) (b : ℕ) → bytes ≡ b ∷ after → (b ≡ 41 → ⊥) → field_type_at bytes ≡ None → are_within most used (types_of bytes) ≡ false

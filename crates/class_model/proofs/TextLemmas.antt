@@ -74,7 +74,7 @@ units_spelled (suc most) (b ∷ bytes) units e = first_spelled (b ∷ bytes) (un
         others None is = absurd (let none : None ≡ Some units = rw is at e in cc)
         others (Some us) is = spells rest us is
 
-units_step : (most : ℕ) (bytes : List ℕ) (u : ℕ) (rest : List ℕ) → unit_at bytes ≡ Some (u, rest)
+pub units_step : (most : ℕ) (bytes : List ℕ) (u : ℕ) (rest : List ℕ) → unit_at bytes ≡ Some (u, rest)
     → units_at (suc most) bytes ≡ option_map (λ us. u ∷ us) (units_at most rest)
 unfolding units_at unit_at
 units_step most [] u rest e = cc

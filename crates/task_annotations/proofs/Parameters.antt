@@ -1,10 +1,9 @@
 -- The parameters of a method are read one after another.
-use Rattle.std.proofs.Common.{◌≡◌, ℕ, zero, suc, ◌<◌, ◌≤◌, List, [], ◌∷◌, ◌++◌, length, map, Option, Some, None, option_map, option_and_then, refl, sym, ◌∙◌, ap, arith, append_assoc, append-nil, eqb, inl, inr}
-use Rattle.std.proofs.lemmas.Bool.{cases_Bool, ne_eqb}
+use Rattle.std.proofs.Common.{◌≡◌, ℕ, zero, suc, ◌<◌, ◌≤◌, List, [], ◌∷◌, ◌++◌, length, map, Option, Some, None, option_map, option_and_then, refl, sym, ◌∙◌, ap, arith, append_assoc, append-nil}
 use Rattle.tree_value.specs.declared.value.ValueType.{ValueType}
 use Rattle.class_model.specs.Descriptors.{FieldType, array, field_type_at, field_types_at, with_first, return_type, MethodType}
 use Rattle.class_model.specs.TypeForms.{arrays}
-use Rattle.class_model.proofs.Parameters.{then_types, types_end, types_step, types_of, shorter}
+use Rattle.class_model.proofs.Parameters.{then_types, types_end, types_of, shorter, enough, step}
 use Rattle.task_annotations.specs.Declarations.{value_type, Signature, signature}
 use Rattle.task_annotations.specs.Reading.{after, signature_read, parameters_read}
 
@@ -13,31 +12,6 @@ pub array-value : (n : ℕ) (t : FieldType) → 0 < n → value_type (arrays n t
 array-value zero t some = absurd (omega arith)
 array-value (suc zero) t some = refl
 array-value (suc (suc n)) t some = array-value (suc n) (array t) (omega arith)
-
--- Two readers that agree on what is shorter go on alike.
-then_same : (one_reader other : List ℕ → Option (List FieldType × List ℕ)) (bytes : List ℕ) (found : Option (FieldType × List ℕ))
-    → ((t : FieldType) (rest : List ℕ) → found ≡ Some (t, rest) → length rest < length bytes)
-    → ((rest : List ℕ) → length rest < length bytes → one_reader rest ≡ other rest) → then_types one_reader found ≡ then_types other found
-then_same one_reader other bytes None within same = refl
-then_same one_reader other bytes (Some (t, rest)) within same = ap (option_map (with_first t)) (same rest (within t rest refl))
-
--- more rounds than there are bytes change nothing
-enough : (few more : ℕ) (bytes : List ℕ) → length bytes ≤ few → length bytes ≤ more → field_types_at few bytes ≡ field_types_at more bytes
-unfolding field_types_at
-enough zero zero bytes p q = refl
-enough zero (suc more) [] p q = refl
-enough zero (suc more) (b ∷ bytes) p q = absurd (omega arith)
-enough (suc few) zero [] p q = refl
-enough (suc few) zero (b ∷ bytes) p q = absurd (omega arith)
-enough (suc few) (suc more) [] p q = refl
-enough (suc few) (suc more) (b ∷ bytes) p q = elim (cases_Bool (eqb b 41)) [
-  | inl y ↦ rw y refl
-  | inr f ↦ rw f (then_same (field_types_at few) (field_types_at more) (b ∷ bytes) (field_type_at (b ∷ bytes)) (shorter (b ∷ bytes)) (λ rest less. enough few more rest (omega arith) (omega arith)))
-]
-
--- the step at bytes that don't begin with a closing parenthesis
-step : (bytes after : List ℕ) (b : ℕ) → bytes ≡ b ∷ after → (b ≡ 41 → ⊥) → types_of bytes ≡ then_types (field_types_at (length after)) (field_type_at bytes)
-step bytes after b at not = rw at (types_step (length after) b after (ne_eqb b 41 not))
 
 abbrev Types : Type 0
 Types = List (Option ValueType)

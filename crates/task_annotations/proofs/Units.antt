@@ -1,13 +1,8 @@
 -- The units of a text are read one after another.
 use Rattle.std.proofs.Common.{◌≡◌, ℕ, zero, suc, List, [], ◌∷◌, ◌++◌, Option, Some, None, option_map, option_and_then, refl, sym, ◌∙◌, ap, append_assoc, append-nil}
 use Rattle.class_model.specs.Units.{unit_at, units_at}
+use Rattle.class_model.proofs.TextLemmas.{units_step}
 use Rattle.task_annotations.specs.Reading.{ended}
-
-units_step : (most : ℕ) (bytes : List ℕ) (u : ℕ) (rest : List ℕ) → unit_at bytes ≡ Some (u, rest)
-    → units_at (suc most) bytes ≡ option_map (λ us. u ∷ us) (units_at most rest)
-unfolding units_at unit_at
-units_step most [] u rest e = cc
-units_step most (b ∷ bytes) u rest e = ap (λ found. option_and_then (λ f. option_map (λ us. f.0 ∷ us) (units_at most f.1)) found) e
 
 abbrev pub put : List ℕ → Option (List ℕ) → Option (List ℕ)
 put units found = option_map (λ us. units ++ us) found
