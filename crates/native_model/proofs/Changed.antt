@@ -17,8 +17,8 @@ use Rattle.native_model.specs.Worlds.{Origin, NamedObject, NamedHeap, Surround, 
 use Rattle.native_model.specs.Thrown.{incompatible_change}
 use Rattle.native_model.specs.Answers.{Answer, throws, gives_nothing, gives_within, or_mismatch}
 use Rattle.native_model.specs.Plain.{throwable_with, throwable_made, message_of, enum_made_of, enum_made, name_of}
-use Rattle.native_model.specs.Ends.{named_world, end_of_growing, builder_enlarged, Answers}
-use Rattle.native_model.proofs.Told.{read, grew}
+use Rattle.native_model.specs.Ends.{named_world, end_of_growing, builder_enlarged}
+use Rattle.native_model.proofs.Told.{Does, read, grew}
 
 none_some : {A : Type 0} (o : Option A) → IsSome o → o ≡ None → ⊥
 none_some o some none = cc
@@ -80,15 +80,15 @@ module _ (f : ClassId → List ℕ) (g : SiteId → Origin) where
     append_there n more units h is =
         grown_builder n more units (renamed f g h) (object_at n (renamed f g h)) is ∙ (heaps_renamed f g).enlarged (with_units more) (with_units more) n (length more) h ((objects_renamed f g).with_units more)
 
-    appended_there : (slot : Option Slot) (n : ℕ) (more units : List ℕ) (r : Result Unit HeapFault) (old new : Heap ClassId SiteId) → Some units ≡ option_and_then as_builder (object_at n (renamed f g old)) → Enlarges (enlarged (with_units more) n (length more) old) r old new → Answers (builder_enlarged slot n more (named_world f g old dest log surround owner)) (end_of_growing slot r) (named_world f g old dest log surround owner) (named_world f g new dest log surround owner)
+    appended_there : (slot : Option Slot) (n : ℕ) (more units : List ℕ) (r : Result Unit HeapFault) (old new : Heap ClassId SiteId) → Some units ≡ option_and_then as_builder (object_at n (renamed f g old)) → Enlarges (enlarged (with_units more) n (length more) old) r old new → Does (builder_enlarged slot n more (named_world f g old dest log surround owner)) (end_of_growing slot r) (named_world f g old dest log surround owner) (named_world f g new dest log surround owner)
     appended_there slot n more units r old new is larger =
-        subst (λ t. Answers (or_mismatch t (λ built. gives_within slot (named_world f g old dest log surround owner) (grown n (builder (built ++ more)) (length more) (renamed f g old)))) (end_of_growing slot r) (named_world f g old dest log surround owner) (named_world f g new dest log surround owner)) is (grew f g slot dest log surround owner (enlarged (with_units more) n (length more) old) (grown n (builder (units ++ more)) (length more) (renamed f g old)) r old new (append_there n more units old is) larger)
+        subst (λ t. Does (or_mismatch t (λ built. gives_within slot (named_world f g old dest log surround owner) (grown n (builder (built ++ more)) (length more) (renamed f g old)))) (end_of_growing slot r) (named_world f g old dest log surround owner) (named_world f g new dest log surround owner)) is (grew f g slot dest log surround owner (enlarged (with_units more) n (length more) old) (grown n (builder (units ++ more)) (length more) (renamed f g old)) r old new (append_there n more units old is) larger)
 
-    appended_by : (slot : Option Slot) (n : ℕ) (more units : List ℕ) (r : Result Unit HeapFault) (old new : Heap ClassId SiteId) (w : World) (end : Result NativeEnd StepFault) → named_world f g old dest log surround owner ≡ w → Some units ≡ seen as_builder n w → Enlarges (enlarged (with_units more) n (length more) old) r old new → end ≡ end_of_growing slot r → Answers (builder_enlarged slot n more w) end w (named_world f g new dest log surround owner)
+    appended_by : (slot : Option Slot) (n : ℕ) (more units : List ℕ) (r : Result Unit HeapFault) (old new : Heap ClassId SiteId) (w : World) (end : Result NativeEnd StepFault) → named_world f g old dest log surround owner ≡ w → Some units ≡ seen as_builder n w → Enlarges (enlarged (with_units more) n (length more) old) r old new → end ≡ end_of_growing slot r → Does (builder_enlarged slot n more w) end w (named_world f g new dest log surround owner)
     appended_by slot n more units r old new w end is seen_there larger ends =
-        subst (λ v. Some units ≡ seen as_builder n v → Answers (builder_enlarged slot n more v) end v (named_world f g new dest log surround owner)) is (λ there. subst (λ e. Answers (builder_enlarged slot n more (named_world f g old dest log surround owner)) e (named_world f g old dest log surround owner) (named_world f g new dest log surround owner)) (sym ends) (appended_there slot n more units r old new there larger)) seen_there
+        subst (λ v. Some units ≡ seen as_builder n v → Does (builder_enlarged slot n more v) end v (named_world f g new dest log surround owner)) is (λ there. subst (λ e. Does (builder_enlarged slot n more (named_world f g old dest log surround owner)) e (named_world f g old dest log surround owner) (named_world f g new dest log surround owner)) (sym ends) (appended_there slot n more units r old new there larger)) seen_there
 
-    pub appended_in : (slot : Option Slot) (n : ℕ) (more : List ℕ) (r : Result Unit HeapFault) (old new : Heap ClassId SiteId) (w : World) (end : Result NativeEnd StepFault) → named_world f g old dest log surround owner ≡ w → IsSome (seen as_builder n w) → Enlarges (enlarged (with_units more) n (length more) old) r old new → end ≡ end_of_growing slot r → Answers (builder_enlarged slot n more w) end w (named_world f g new dest log surround owner)
+    pub appended_in : (slot : Option Slot) (n : ℕ) (more : List ℕ) (r : Result Unit HeapFault) (old new : Heap ClassId SiteId) (w : World) (end : Result NativeEnd StepFault) → named_world f g old dest log surround owner ≡ w → IsSome (seen as_builder n w) → Enlarges (enlarged (with_units more) n (length more) old) r old new → end ≡ end_of_growing slot r → Does (builder_enlarged slot n more w) end w (named_world f g new dest log surround owner)
     appended_in slot n more r old new w end is there larger ends =
         from_some (seen as_builder n w) there (λ units seen_there. appended_by slot n more units r old new w end is seen_there larger ends)
 
@@ -107,10 +107,10 @@ module _ (f : ClassId → List ℕ) (g : SiteId → Origin) where
     name_there n name ordinal old new is =
         told_name n name ordinal (named_world f g old dest log surround owner) (object_at n (renamed f g old)) ∙ changed_there (with_name name ordinal) (with_name name ordinal) n old new ((objects_renamed f g).with_name name ordinal) is
 
-    pub message_set : (n message cause : ℕ) (old new : Heap ClassId SiteId) (w : World) → named_world f g old dest log surround owner ≡ w → changed (with_message message cause) n old ≡ Some new → Answers (throwable_made n message cause w) (Ok (ends.Gives None)) w (named_world f g new dest log surround owner)
+    pub message_set : (n message cause : ℕ) (old new : Heap ClassId SiteId) (w : World) → named_world f g old dest log surround owner ≡ w → changed (with_message message cause) n old ≡ Some new → Does (throwable_made n message cause w) (Ok (ends.Gives None)) w (named_world f g new dest log surround owner)
     message_set n message cause old new w is change =
-        subst (λ v. Answers (throwable_made n message cause v) (Ok (ends.Gives None)) v (named_world f g new dest log surround owner)) is (record { answer = message_there n message cause old new change; kept = tt; unmade = tt })
+        subst (λ v. Does (throwable_made n message cause v) (Ok (ends.Gives None)) v (named_world f g new dest log surround owner)) is (record { answer = message_there n message cause old new change; kept = tt; unmade = tt })
 
-    pub name_set : (n name : ℕ) (ordinal : ℤ) (old new : Heap ClassId SiteId) (w : World) → named_world f g old dest log surround owner ≡ w → changed (with_name name ordinal) n old ≡ Some new → Answers (enum_made n name ordinal w) (Ok (ends.Gives None)) w (named_world f g new dest log surround owner)
+    pub name_set : (n name : ℕ) (ordinal : ℤ) (old new : Heap ClassId SiteId) (w : World) → named_world f g old dest log surround owner ≡ w → changed (with_name name ordinal) n old ≡ Some new → Does (enum_made n name ordinal w) (Ok (ends.Gives None)) w (named_world f g new dest log surround owner)
     name_set n name ordinal old new w is change =
-        subst (λ v. Answers (enum_made n name ordinal v) (Ok (ends.Gives None)) v (named_world f g new dest log surround owner)) is (record { answer = name_there n name ordinal old new change; kept = tt; unmade = tt })
+        subst (λ v. Does (enum_made n name ordinal v) (Ok (ends.Gives None)) v (named_world f g new dest log surround owner)) is (record { answer = name_there n name ordinal old new change; kept = tt; unmade = tt })

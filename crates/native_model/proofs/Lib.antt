@@ -1,3 +1,4 @@
 pub mod Told
 pub mod Changed
 mod Listing
+mod Parts

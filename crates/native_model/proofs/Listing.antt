@@ -16,8 +16,8 @@ use Rattle.native_model.specs.declared.native_end.NativeEnd.{NativeEnd}
 use Rattle.native_model.specs.Worlds.{Origin, NamedObject, NamedHeap, Surround, World, with_heap, as_list, as_iterator, seen}
 use Rattle.native_model.specs.Answers.{gives_within}
 use Rattle.native_model.specs.Lists.{fixed_list, gives_list}
-use Rattle.native_model.specs.Ends.{named_world, end_of_making, end_of_growing, Answers}
-use Rattle.native_model.proofs.Told.{read, grew, made_in}
+use Rattle.native_model.specs.Ends.{named_world, end_of_making, end_of_growing}
+use Rattle.native_model.proofs.Told.{Does, read, grew, made_in}
 
 pub if_seen : {A : Type 0} (P : A → Type 0) (o : Option A) → ((a : A) → Some a ≡ o → P a) → IfSome o P
 if_seen P None holds = tt
@@ -107,18 +107,18 @@ module _ (f : ClassId → List ℕ) (g : SiteId → Origin) where
         subst (λ v. IfSome (seen as_iterator n v) (λ it. named_world f g new dest log surround owner ≡ with_heap (replaced n (iterator it.0 next) v.heap) v)) is
         (if_seen (λ it. named_world f g new dest log surround owner ≡ with_heap (replaced n (iterator it.0 next) (renamed f g old)) (named_world f g old dest log surround owner)) (option_and_then as_iterator (object_at n (renamed f g old))) (λ it there. next_there next n old new it change there))
 
-    added_there : (slot : Option Slot) (element n : ℕ) (r : Result Unit HeapFault) (old new : Heap ClassId SiteId) (l : List ℕ × List ℕ) → Enlarges (enlarged (with_last element) n 1 old) r old new → Some l ≡ option_and_then as_list (object_at n (renamed f g old)) → Answers (gives_within slot (named_world f g old dest log surround owner) (grown n (listed l.0 (l.1 ++ element ∷ [])) 1 (renamed f g old))) (end_of_growing slot r) (named_world f g old dest log surround owner) (named_world f g new dest log surround owner)
+    added_there : (slot : Option Slot) (element n : ℕ) (r : Result Unit HeapFault) (old new : Heap ClassId SiteId) (l : List ℕ × List ℕ) → Enlarges (enlarged (with_last element) n 1 old) r old new → Some l ≡ option_and_then as_list (object_at n (renamed f g old)) → Does (gives_within slot (named_world f g old dest log surround owner) (grown n (listed l.0 (l.1 ++ element ∷ [])) 1 (renamed f g old))) (end_of_growing slot r) (named_world f g old dest log surround owner) (named_world f g new dest log surround owner)
     unfolding enlarged
     added_there slot element n r old new l larger is =
         grew f g slot dest log surround owner (enlarged (with_last element) n 1 old) (grown n (listed l.0 (l.1 ++ element ∷ [])) 1 (renamed f g old)) r old new (last_grown element n l (renamed f g old) (object_at n (renamed f g old)) is ∙ (heaps_renamed f g).enlarged (with_last element) (with_last element) n 1 old ((objects_renamed f g).with_last element)) larger
 
-    pub element_added : (slot : Option Slot) (element n : ℕ) (r : Result Unit HeapFault) (old new : Heap ClassId SiteId) (w : World) (end : Result NativeEnd StepFault) → named_world f g old dest log surround owner ≡ w → Enlarges (enlarged (with_last element) n 1 old) r old new → end ≡ end_of_growing slot r → IfSome (seen as_list n w) (λ l. Answers (gives_within slot w (grown n (listed l.0 (l.1 ++ element ∷ [])) 1 w.heap)) end w (named_world f g new dest log surround owner))
+    pub element_added : (slot : Option Slot) (element n : ℕ) (r : Result Unit HeapFault) (old new : Heap ClassId SiteId) (w : World) (end : Result NativeEnd StepFault) → named_world f g old dest log surround owner ≡ w → Enlarges (enlarged (with_last element) n 1 old) r old new → end ≡ end_of_growing slot r → IfSome (seen as_list n w) (λ l. Does (gives_within slot w (grown n (listed l.0 (l.1 ++ element ∷ [])) 1 w.heap)) end w (named_world f g new dest log surround owner))
     element_added slot element n r old new w end is larger ends =
-        subst (λ v. IfSome (seen as_list n v) (λ l. Answers (gives_within slot v (grown n (listed l.0 (l.1 ++ element ∷ [])) 1 v.heap)) end v (named_world f g new dest log surround owner))) is
-        (subst (λ e. IfSome (option_and_then as_list (object_at n (renamed f g old))) (λ l. Answers (gives_within slot (named_world f g old dest log surround owner) (grown n (listed l.0 (l.1 ++ element ∷ [])) 1 (renamed f g old))) e (named_world f g old dest log surround owner) (named_world f g new dest log surround owner))) (sym ends)
-        (if_seen (λ l. Answers (gives_within slot (named_world f g old dest log surround owner) (grown n (listed l.0 (l.1 ++ element ∷ [])) 1 (renamed f g old))) (end_of_growing slot r) (named_world f g old dest log surround owner) (named_world f g new dest log surround owner)) (option_and_then as_list (object_at n (renamed f g old))) (λ l there. added_there slot element n r old new l larger there)))
+        subst (λ v. IfSome (seen as_list n v) (λ l. Does (gives_within slot v (grown n (listed l.0 (l.1 ++ element ∷ [])) 1 v.heap)) end v (named_world f g new dest log surround owner))) is
+        (subst (λ e. IfSome (option_and_then as_list (object_at n (renamed f g old))) (λ l. Does (gives_within slot (named_world f g old dest log surround owner) (grown n (listed l.0 (l.1 ++ element ∷ [])) 1 (renamed f g old))) e (named_world f g old dest log surround owner) (named_world f g new dest log surround owner))) (sym ends)
+        (if_seen (λ l. Does (gives_within slot (named_world f g old dest log surround owner) (grown n (listed l.0 (l.1 ++ element ∷ [])) 1 (renamed f g old))) (end_of_growing slot r) (named_world f g old dest log surround owner) (named_world f g new dest log surround owner)) (option_and_then as_list (object_at n (renamed f g old))) (λ l there. added_there slot element n r old new l larger there)))
 
-    pub list_made : (class : ClassId) (elements : List ℕ) (r : Result ℕ HeapFault) (old new : Heap ClassId SiteId) (w : World) (end : Result NativeEnd StepFault) → named_world f g old dest log surround owner ≡ w → f class ≡ fixed_list → Makes (allocated (listed class elements) old) r old new → end ≡ end_of_making r → Answers (gives_list elements w) end w (named_world f g new dest log surround owner)
+    pub list_made : (class : ClassId) (elements : List ℕ) (r : Result ℕ HeapFault) (old new : Heap ClassId SiteId) (w : World) (end : Result NativeEnd StepFault) → named_world f g old dest log surround owner ≡ w → f class ≡ fixed_list → Makes (allocated (listed class elements) old) r old new → end ≡ end_of_making r → Does (gives_list elements w) end w (named_world f g new dest log surround owner)
     list_made class elements r old new w end is fixed makes ends =
         made_in f g (λ h. allocated (listed fixed_list elements) h) dest log surround owner (allocated (listed class elements) old) r old new w end is
         (subst (λ name. allocated (listed name elements) (renamed f g old) ≡ option_map (renamed_made f g) (allocated (listed class elements) old)) fixed ((heaps_renamed f g).allocated (listed class elements) old)) makes ends

@@ -23,7 +23,7 @@ use Rattle.native_model.specs.declared.native_end.Handed.{Handed}
 use Rattle.native_model.specs.declared.native_end.Handed.TheVariants as handed
 use Rattle.native_model.specs.declared.native_end.NativeEnd.{NativeEnd}
 use Rattle.native_model.specs.declared.native_end.NativeEnd.TheVariants as ends
-use Rattle.native_model.specs.Worlds.{Origin, Surround, World, as_builder}
+use Rattle.native_model.specs.Worlds.{Origin, Surround, World, Placed, as_builder}
 use Rattle.native_model.specs.Thrown as thrown
 use Rattle.native_model.specs.Answers as answers
 
@@ -109,7 +109,9 @@ UnlessGiven (ends.Gives slot) P = Unit {0}
 UnlessGiven _ P = P
 
 -- A native does what is defined, and where it gives nothing the world stays as it was; so it does after want of memory.
-pub record Answers (defined : answers.Answer) (result : Result NativeEnd StepFault) (old new : World) : Type 0 where
-  pub answer : IfOk result (λ end. defined ≡ answer_of end new)
-  pub kept : IfOk result (λ end. UnlessGiven end (new ≡ old))
-  pub unmade : OnErr result (new ≡ old)
+-- The names of classes and sites stay in any case.
+pub record Answers {N : Type 0} (defined : answers.Answer) (result : Result NativeEnd StepFault) (old new : Placed N) : Type 0 where
+  pub answer : IfOk result (λ end. defined ≡ answer_of end new.world)
+  pub kept : IfOk result (λ end. UnlessGiven end (new.world ≡ old.world))
+  pub unmade : OnErr result (new.world ≡ old.world)
+  pub names : new.names ≡ old.names

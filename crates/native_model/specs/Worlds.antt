@@ -36,6 +36,14 @@ pub record World : Type 0 where
 abbrev pub with_heap : NamedHeap → World → World
 with_heap heap w = record { heap = heap; dest = w.dest; log = w.log; surround = w.surround; owner = w.owner }
 
+-- A world with what its code names classes and sites by.
+pub record Placed (N : Type 0) : Type 0 where
+  pub names : N
+  pub world : World
+
+abbrev pub in_heap : {N : Type 0} → NamedHeap → Placed N → Placed N
+in_heap heap p = record { names = p.names; world = with_heap heap p.world }
+
 -- the descriptor of an element (JVMS 4.3.2)
 abbrev pub letter_of : ElementKind → List ℕ
 letter_of elements.Boolean = codes "Z"

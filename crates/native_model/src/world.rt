@@ -11,6 +11,7 @@ ghost use Rattle.native_model.specs.Ends.{named_world, builder_enlarged, Answers
 
 use crate::dest::Dest;
 use crate::fault::StepFault;
+use crate::log::Log;
 use crate::making::{end_of_growing, end_of_making, put_text};
 use crate::naming::Naming;
 use crate::native_end::NativeEnd;
@@ -23,7 +24,7 @@ use crate::throw::Throw;
 use jvm_heap::{Heap, Slot, Units};
 use std::alloc::Global;
 use std::marker::Model;
-use tree_value::{Lines, Text};
+use tree_value::Text;
 
 /// All that natives read and change. Its objects tell classes and sites by place, and contracts see them by name.
 #[derive(Drop)]
@@ -31,7 +32,7 @@ pub struct World<N: Naming> {
     pub(crate) names: N,
     pub(crate) heap: Heap,
     pub(crate) dest: Dest,
-    pub(crate) log: Lines,
+    pub(crate) log: Log,
     pub(crate) surround: Option<Surround>,
     pub(crate) owner: Option<Text>,
 }
@@ -40,10 +41,13 @@ impl<N: Naming> Model for World<N> {
     ghost use Rattle.native_model.specs.Worlds as worlds;
     ghost use Rattle.native_model.specs.Ends.{named_world};
 
-    ghost Value = { worlds.World };
+    ghost Value = { worlds.Placed N };
 
-    ghost view = { λ w. named_world (N.class_name w.names) (N.site_origin w.names)
-        w.heap w.dest w.log w.surround w.owner };
+    ghost view = { λ w. record {
+      names = w.names;
+      world = named_world (N.class_name w.names) (N.site_origin w.names)
+          w.heap w.dest w.log w.surround w.owner;
+    } };
 }
 
 impl<N: Naming> World<N> {
@@ -52,12 +56,15 @@ impl<N: Naming> World<N> {
         names: N,
         heap: Heap,
         dest: Dest,
-        log: Lines,
+        log: Log,
         surround: Option<Surround>,
         owner: Option<Text>,
     ) -> World<N>
-        ensures { result ≡ named_world (N.class_name names) (N.site_origin names)
-            heap dest log surround owner }
+        ensures { result ≡ record {
+          names = names;
+          world = named_world (N.class_name names) (N.site_origin names)
+              heap dest log surround owner;
+        } }
     {
         World {
             names,
@@ -71,7 +78,7 @@ impl<N: Naming> World<N> {
 
     /// The units of a text.
     pub fn text(&self, number: u32) -> Option<&[u16]>
-        ensures units { option_copied result ≡ seen as_text number self.now }
+        ensures units { option_copied result ≡ seen as_text number self.now.world }
         ensures few { IfSome (option_copied result) (λ units. length units < most_cells) }
     {
         match self.heap.object(number) {
@@ -82,7 +89,7 @@ impl<N: Naming> World<N> {
 
     /// The units of a builder.
     pub fn builder(&self, number: u32) -> Option<&[u16]>
-        ensures units { option_copied result ≡ seen as_builder number self.now }
+        ensures units { option_copied result ≡ seen as_builder number self.now.world }
         ensures few { IfSome (option_copied result) (λ units. length units < most_cells) }
     {
         match self.heap.object(number) {
@@ -93,7 +100,7 @@ impl<N: Naming> World<N> {
 
     /// The number of an Integer.
     pub fn int(&self, number: u32) -> Option<i32>
-        ensures { result ≡ seen as_int number self.now }
+        ensures { result ≡ seen as_int number self.now.world }
     {
         match self.heap.object(number) {
             Some(object) => int_in(object),
@@ -103,7 +110,7 @@ impl<N: Naming> World<N> {
 
     /// The number of a Long.
     pub fn long(&self, number: u32) -> Option<i64>
-        ensures { result ≡ seen as_long number self.now }
+        ensures { result ≡ seen as_long number self.now.world }
     {
         match self.heap.object(number) {
             Some(object) => long_in(object),
@@ -113,7 +120,7 @@ impl<N: Naming> World<N> {
 
     /// The truth of a Boolean.
     pub fn boolean(&self, number: u32) -> Option<bool>
-        ensures { result ≡ seen as_boolean number self.now }
+        ensures { result ≡ seen as_boolean number self.now.world }
     {
         match self.heap.object(number) {
             Some(object) => boolean_in(object),
@@ -123,7 +130,7 @@ impl<N: Naming> World<N> {
 
     /// The list of an iterator, and the place of its next element.
     pub fn iterator(&self, number: u32) -> Option<(u32, u32)>
-        ensures { result ≡ seen as_iterator number self.now }
+        ensures { result ≡ seen as_iterator number self.now.world }
     {
         match self.heap.object(number) {
             Some(object) => iterator_in(object),
@@ -133,7 +140,7 @@ impl<N: Naming> World<N> {
 
     /// The name of an enum.
     pub fn enum_name(&self, number: u32) -> Option<u32>
-        ensures { result ≡ seen name_of number self.now }
+        ensures { result ≡ seen name_of number self.now.world }
     {
         match self.heap.object(number) {
             Some(object) => name_in(object),
@@ -143,7 +150,7 @@ impl<N: Naming> World<N> {
 
     /// The ordinal of an enum.
     pub fn enum_ordinal(&self, number: u32) -> Option<i32>
-        ensures { result ≡ seen ordinal_of number self.now }
+        ensures { result ≡ seen ordinal_of number self.now.world }
     {
         match self.heap.object(number) {
             Some(object) => ordinal_in(object),
@@ -153,7 +160,7 @@ impl<N: Naming> World<N> {
 
     /// The message of a throwable; 0 where it has none.
     pub fn message(&self, number: u32) -> Option<u32>
-        ensures { result ≡ seen message_of number self.now }
+        ensures { result ≡ seen message_of number self.now.world }
     {
         match self.heap.object(number) {
             Some(object) => message_in(object),
@@ -163,7 +170,7 @@ impl<N: Naming> World<N> {
 
     /// The cause of a throwable; 0 where it has none.
     pub fn cause(&self, number: u32) -> Option<u32>
-        ensures { result ≡ seen cause_of number self.now }
+        ensures { result ≡ seen cause_of number self.now.world }
     {
         match self.heap.object(number) {
             Some(object) => cause_in(object),
@@ -178,7 +185,7 @@ impl<N: Naming> World<N> {
 
     /// A new text.
     pub fn give_text(&mut self, units: Units) -> Result<NativeEnd, StepFault>
-        ensures { Answers (gives_text units self.old) result self.old self.new }
+        ensures { Answers (gives_text units self.old.world) result self.old self.new }
     {
         let made = put_text(&mut self.heap, units);
         end_of_making(made)
@@ -186,7 +193,7 @@ impl<N: Naming> World<N> {
 
     /// The box of an int.
     pub fn give_int_box(&mut self, value: i32) -> Result<NativeEnd, StepFault>
-        ensures { Answers (int_box value self.old) result self.old self.new }
+        ensures { Answers (int_box value self.old.world) result self.old self.new }
     {
         let made = self.heap.box_of_int(value);
         end_of_making(made)
@@ -194,7 +201,7 @@ impl<N: Naming> World<N> {
 
     /// The box of a long.
     pub fn give_long_box(&mut self, value: i64) -> Result<NativeEnd, StepFault>
-        ensures { Answers (long_box value self.old) result self.old self.new }
+        ensures { Answers (long_box value self.old.world) result self.old self.new }
     {
         let made = self.heap.box_of_long(value);
         end_of_making(made)
@@ -202,7 +209,7 @@ impl<N: Naming> World<N> {
 
     /// The box of a truth.
     pub fn give_boolean_box(&mut self, value: bool) -> Result<NativeEnd, StepFault>
-        ensures { Answers (gives_made self.old (box_of_boolean value self.old.heap)) result self.old self.new }
+        ensures { Answers (gives_made self.old.world (box_of_boolean value self.old.world.heap)) result self.old self.new }
     {
         let made = self.heap.box_of_boolean(value);
         end_of_making(made)
@@ -214,8 +221,8 @@ impl<N: Naming> World<N> {
         more: &[u16],
         slot: Option<Slot>,
     ) -> Result<NativeEnd, StepFault>
-        requires { IsSome (seen as_builder number self.old) }
-        ensures { Answers (builder_enlarged slot number more.now self.old) result self.old self.new }
+        requires { IsSome (seen as_builder number self.old.world) }
+        ensures { Answers (builder_enlarged slot number more.now self.old.world) result self.old self.new }
     {
         let grown = self.heap.append(number, more);
         end_of_growing(slot, grown)
@@ -228,7 +235,7 @@ impl<N: Naming> World<N> {
         more: &[u16],
         slot: Option<Slot>,
     ) -> Result<NativeEnd, StepFault>
-        ensures { Answers (builder_enlarged slot number more.now self.old) result self.old self.new }
+        ensures { Answers (builder_enlarged slot number more.now self.old.world) result self.old self.new }
     {
         match self.builder(number) {
             Some(_) => self.grow_builder(number, more, slot),
@@ -237,16 +244,16 @@ impl<N: Naming> World<N> {
     }
 
     fn put_message(&mut self, number: u32, message: u32, cause: u32) -> NativeEnd
-        requires { IsSome (seen message_of number self.old) }
-        ensures { Answers (throwable_made number message cause self.old) (Ok result) self.old self.new }
+        requires { IsSome (seen message_of number self.old.world) }
+        ensures { Answers (throwable_made number message cause self.old.world) (Ok result) self.old self.new }
     {
         self.heap.set_message(number, message, cause);
         NativeEnd::Gives(None)
     }
 
     fn put_name(&mut self, number: u32, name: u32, ordinal: i32) -> NativeEnd
-        requires { IsSome (seen name_of number self.old) }
-        ensures { Answers (enum_made number name ordinal self.old) (Ok result) self.old self.new }
+        requires { IsSome (seen name_of number self.old.world) }
+        ensures { Answers (enum_made number name ordinal self.old.world) (Ok result) self.old self.new }
     {
         self.heap.set_name(number, name, ordinal);
         NativeEnd::Gives(None)
@@ -254,7 +261,7 @@ impl<N: Naming> World<N> {
 
     /// Gives a throwable its message and its cause.
     pub fn set_message(&mut self, number: u32, message: u32, cause: u32) -> NativeEnd
-        ensures { Answers (throwable_made number message cause self.old) (Ok result) self.old self.new }
+        ensures { Answers (throwable_made number message cause self.old.world) (Ok result) self.old self.new }
     {
         match self.message(number) {
             Some(_) => self.put_message(number, message, cause),
@@ -264,7 +271,7 @@ impl<N: Naming> World<N> {
 
     /// Gives an enum its name and its ordinal.
     pub fn set_name(&mut self, number: u32, name: u32, ordinal: i32) -> NativeEnd
-        ensures { Answers (enum_made number name ordinal self.old) (Ok result) self.old self.new }
+        ensures { Answers (enum_made number name ordinal self.old.world) (Ok result) self.old self.new }
     {
         match self.enum_name(number) {
             Some(_) => self.put_name(number, name, ordinal),

@@ -1,11 +1,11 @@
 use Rattle.std.proofs.Common.{refl, Some, None}
 use Rattle.native_model.specs.Worlds.{as_boolean}
-use Rattle.native_model.proofs.Told.{looked}
+use Rattle.native_model.proofs.Told.{looked, world_of}
 use Rattle.native_model.proofs.world.World.boolean.Goals as goal
 
 pub returns-in-Some : goal.returns-in-Some
 returns-in-Some g c =
-    looked _ _ as_boolean _ _ _ _ _ _ _ (Some c.in-Some.object.now) _ c.self.view_is c.in-Some.ensures.value (c.boolean_in.ensures _ _)
+    looked _ _ as_boolean _ _ _ _ _ _ _ (Some c.in-Some.object.now) _ (world_of c.self.view_is) c.in-Some.ensures.value (c.boolean_in.ensures _ _)
 
 pub returns-in-None : goal.returns-in-None
-returns-in-None g c = looked _ _ as_boolean _ _ _ _ _ _ _ None _ c.self.view_is c.in-None.ensures.value refl
+returns-in-None g c = looked _ _ as_boolean _ _ _ _ _ _ _ None _ (world_of c.self.view_is) c.in-None.ensures.value refl

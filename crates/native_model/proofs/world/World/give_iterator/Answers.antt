@@ -1,9 +1,9 @@
 use Rattle.jvm_heap.specs.Objects.{iterator}
 use Rattle.jvm_heap.specs.Heaps.{allocated}
 use Rattle.jvm_heap.proofs.Renamed.{heaps_renamed}
-use Rattle.native_model.proofs.Told.{made_in}
+use Rattle.native_model.proofs.Told.{made_in, named, names_of, world_of}
 use Rattle.native_model.proofs.world.World.give_iterator.Goals as goal
 
 pub returns : goal.returns
 returns g c =
-    made_in _ _ (λ h. allocated (iterator c.args.list 0) h) _ _ _ _ _ _ _ _ _ _ c.self.view_is ((heaps_renamed _ _).allocated (iterator c.args.list 0) _) c.put_iterator-made.ensures c.end_of_making.ensures
+    named (made_in _ _ (λ h. allocated (iterator c.args.list 0) h) _ _ _ _ _ _ _ _ _ _ (world_of c.self.view_is) ((heaps_renamed _ _).allocated (iterator c.args.list 0) _) c.put_iterator-made.ensures c.end_of_making.ensures) (names_of c.self.view_is)
