@@ -41,7 +41,7 @@ pub fn text_of_object<N: Naming>(
     progress: &Progress,
     world: &mut World<N>,
 ) -> Result<NativeEnd, StepFault>
-    ensures { Answers (text_of_object object (progress_of progress.now) world.old)
+    ensures { Answers (text_of_object object (progress_of progress.now) world.old.world)
         result world.old world.new }
 {
     if object == 0 {
@@ -59,7 +59,7 @@ pub fn text_of_object<N: Naming>(
 
 /// The text that a callback gave, copied.
 fn text_given<N: Naming>(slot: Slot, world: &World<N>) -> Result<Option<Units>, StepFault>
-    ensures { IfOk result (λ found. found ≡ text_given slot world.now) }
+    ensures { IfOk result (λ found. found ≡ text_given slot world.now.world) }
 {
     match slot {
         Slot::Ref(0) => Ok(Some(Units::from_slice(world.allocator(), &[0x6e, 0x75, 0x6c, 0x6c])?)),
@@ -76,7 +76,7 @@ pub fn append_object<N: Naming>(
     progress: &Progress,
     world: &mut World<N>,
 ) -> Result<NativeEnd, StepFault>
-    ensures { Answers (append_object builder object (progress_of progress.now) world.old)
+    ensures { Answers (append_object builder object (progress_of progress.now) world.old.world)
         result world.old world.new }
 {
     if object == 0 {
@@ -102,7 +102,7 @@ pub fn throwable_caused<N: Naming>(
     progress: &Progress,
     world: &mut World<N>,
 ) -> NativeEnd
-    ensures { Answers (throwable_caused object cause (progress_of progress.now) world.old)
+    ensures { Answers (throwable_caused object cause (progress_of progress.now) world.old.world)
         (Ok result) world.old world.new }
 {
     if cause == 0 {

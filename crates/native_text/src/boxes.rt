@@ -55,14 +55,14 @@ fn is_same_truth(is: bool, other: Option<bool>) -> bool
 
 /// `Integer.valueOf(int)`.
 pub fn int_box<N: Naming>(value: i32, world: &mut World<N>) -> Result<NativeEnd, StepFault>
-    ensures { Answers (int_box value world.old) result world.old world.new }
+    ensures { Answers (int_box value world.old.world) result world.old world.new }
 {
     world.give_int_box(value)
 }
 
 /// `Integer.intValue()` and `hashCode()`.
 pub fn int_of_box<N: Naming>(object: u32, world: &World<N>) -> NativeEnd
-    ensures { int_of_box object world.now ≡ answer_of result world.now }
+    ensures { int_of_box object world.now.world ≡ answer_of result world.now.world }
 {
     match world.int(object) {
         Some(n) => NativeEnd::Gives(Some(Slot::Int(n))),
@@ -72,7 +72,7 @@ pub fn int_of_box<N: Naming>(object: u32, world: &World<N>) -> NativeEnd
 
 /// `Integer.longValue()`.
 pub fn long_of_int_box<N: Naming>(object: u32, world: &World<N>) -> NativeEnd
-    ensures { long_of_int_box object world.now ≡ answer_of result world.now }
+    ensures { long_of_int_box object world.now.world ≡ answer_of result world.now.world }
 {
     match world.int(object) {
         Some(n) => NativeEnd::Gives(Some(Slot::Long(i64::from(n)))),
@@ -82,7 +82,7 @@ pub fn long_of_int_box<N: Naming>(object: u32, world: &World<N>) -> NativeEnd
 
 /// `Integer.equals(Object)`.
 pub fn int_box_equals<N: Naming>(object: u32, other: u32, world: &World<N>) -> NativeEnd
-    ensures { int_box_equals object other world.now ≡ answer_of result world.now }
+    ensures { int_box_equals object other world.now.world ≡ answer_of result world.now.world }
 {
     match world.int(object) {
         Some(n) => NativeEnd::truth(is_same_int(n, world.int(other))),
@@ -92,14 +92,14 @@ pub fn int_box_equals<N: Naming>(object: u32, other: u32, world: &World<N>) -> N
 
 /// `Long.valueOf(long)`.
 pub fn long_box<N: Naming>(value: i64, world: &mut World<N>) -> Result<NativeEnd, StepFault>
-    ensures { Answers (long_box value world.old) result world.old world.new }
+    ensures { Answers (long_box value world.old.world) result world.old world.new }
 {
     world.give_long_box(value)
 }
 
 /// `Long.intValue()`.
 pub fn int_of_long_box<N: Naming>(object: u32, world: &World<N>) -> NativeEnd
-    ensures { int_of_long_box object world.now ≡ answer_of result world.now }
+    ensures { int_of_long_box object world.now.world ≡ answer_of result world.now.world }
 {
     match world.long(object) {
         Some(n) => NativeEnd::Gives(Some(Slot::Int(narrowed(n)))),
@@ -109,7 +109,7 @@ pub fn int_of_long_box<N: Naming>(object: u32, world: &World<N>) -> NativeEnd
 
 /// `Long.longValue()`.
 pub fn long_of_box<N: Naming>(object: u32, world: &World<N>) -> NativeEnd
-    ensures { long_of_box object world.now ≡ answer_of result world.now }
+    ensures { long_of_box object world.now.world ≡ answer_of result world.now.world }
 {
     match world.long(object) {
         Some(n) => NativeEnd::Gives(Some(Slot::Long(n))),
@@ -119,7 +119,7 @@ pub fn long_of_box<N: Naming>(object: u32, world: &World<N>) -> NativeEnd
 
 /// `Long.equals(Object)`.
 pub fn long_box_equals<N: Naming>(object: u32, other: u32, world: &World<N>) -> NativeEnd
-    ensures { long_box_equals object other world.now ≡ answer_of result world.now }
+    ensures { long_box_equals object other world.now.world ≡ answer_of result world.now.world }
 {
     match world.long(object) {
         Some(n) => NativeEnd::truth(is_same_long(n, world.long(other))),
@@ -129,7 +129,7 @@ pub fn long_box_equals<N: Naming>(object: u32, other: u32, world: &World<N>) -> 
 
 /// `Long.hashCode()`.
 pub fn long_box_hash<N: Naming>(object: u32, world: &World<N>) -> NativeEnd
-    ensures { long_box_hash object world.now ≡ answer_of result world.now }
+    ensures { long_box_hash object world.now.world ≡ answer_of result world.now.world }
 {
     match world.long(object) {
         Some(n) => NativeEnd::Gives(Some(Slot::Int(hash_of_long(n)))),
@@ -139,14 +139,14 @@ pub fn long_box_hash<N: Naming>(object: u32, world: &World<N>) -> NativeEnd
 
 /// `Boolean.valueOf(boolean)`.
 pub fn boolean_box<N: Naming>(value: i32, world: &mut World<N>) -> Result<NativeEnd, StepFault>
-    ensures { Answers (boolean_box value world.old) result world.old world.new }
+    ensures { Answers (boolean_box value world.old.world) result world.old world.new }
 {
     world.give_boolean_box(value != 0)
 }
 
 /// `Boolean.booleanValue()`.
 pub fn boolean_of_box<N: Naming>(object: u32, world: &World<N>) -> NativeEnd
-    ensures { boolean_of_box object world.now ≡ answer_of result world.now }
+    ensures { boolean_of_box object world.now.world ≡ answer_of result world.now.world }
 {
     match world.boolean(object) {
         Some(is) => NativeEnd::truth(is),
@@ -156,7 +156,7 @@ pub fn boolean_of_box<N: Naming>(object: u32, world: &World<N>) -> NativeEnd
 
 /// `Boolean.equals(Object)`.
 pub fn boolean_box_equals<N: Naming>(object: u32, other: u32, world: &World<N>) -> NativeEnd
-    ensures { boolean_box_equals object other world.now ≡ answer_of result world.now }
+    ensures { boolean_box_equals object other world.now.world ≡ answer_of result world.now.world }
 {
     match world.boolean(object) {
         Some(is) => NativeEnd::truth(is_same_truth(is, world.boolean(other))),
@@ -166,7 +166,7 @@ pub fn boolean_box_equals<N: Naming>(object: u32, other: u32, world: &World<N>) 
 
 /// `Boolean.hashCode()`.
 pub fn boolean_box_hash<N: Naming>(object: u32, world: &World<N>) -> NativeEnd
-    ensures { boolean_box_hash object world.now ≡ answer_of result world.now }
+    ensures { boolean_box_hash object world.now.world ≡ answer_of result world.now.world }
 {
     match world.boolean(object) {
         Some(is) => NativeEnd::Gives(Some(Slot::Int(hash_of_boolean(is)))),

@@ -15,7 +15,7 @@ pub(crate) fn append<N: Naming>(
     more: &[u16],
     world: &mut World<N>,
 ) -> Result<NativeEnd, StepFault>
-    ensures { Answers (appended builder more.now world.old) result world.old world.new }
+    ensures { Answers (appended builder more.now world.old.world) result world.old world.new }
 {
     world.append(builder, more, Some(Slot::Ref(builder)))
 }
@@ -26,7 +26,7 @@ pub fn builder_made<N: Naming>(
     text: u32,
     world: &mut World<N>,
 ) -> Result<NativeEnd, StepFault>
-    ensures { Answers (builder_made builder text world.old) result world.old world.new }
+    ensures { Answers (builder_made builder text world.old.world) result world.old world.new }
 {
     match text_copy(text, world)? {
         Some(more) => world.append(builder, more.as_slice(), None),
@@ -36,7 +36,7 @@ pub fn builder_made<N: Naming>(
 
 /// `StringBuilder.toString()`.
 pub fn builder_text<N: Naming>(builder: u32, world: &mut World<N>) -> Result<NativeEnd, StepFault>
-    ensures { Answers (builder_text builder world.old) result world.old world.new }
+    ensures { Answers (builder_text builder world.old.world) result world.old world.new }
 {
     match builder_copy(builder, world)? {
         Some(units) => world.give_text(units),
@@ -46,7 +46,7 @@ pub fn builder_text<N: Naming>(builder: u32, world: &mut World<N>) -> Result<Nat
 
 /// `StringBuilder.length()`.
 pub fn builder_length<N: Naming>(builder: u32, world: &World<N>) -> NativeEnd
-    ensures { builder_length builder world.now ≡ answer_of result world.now }
+    ensures { builder_length builder world.now.world ≡ answer_of result world.now.world }
 {
     match world.builder(builder) {
         Some(units) => NativeEnd::Gives(Some(Slot::Int(units.len() as i32))),
@@ -60,7 +60,7 @@ pub fn append_text<N: Naming>(
     text: u32,
     world: &mut World<N>,
 ) -> Result<NativeEnd, StepFault>
-    ensures { Answers (append_text builder text world.old) result world.old world.new }
+    ensures { Answers (append_text builder text world.old.world) result world.old world.new }
 {
     if text == 0 {
         return append(builder, &[0x6e, 0x75, 0x6c, 0x6c], world);
@@ -83,7 +83,7 @@ pub fn append_char<N: Naming>(
     unit: i32,
     world: &mut World<N>,
 ) -> Result<NativeEnd, StepFault>
-    ensures { Answers (append_char builder unit world.old) result world.old world.new }
+    ensures { Answers (append_char builder unit world.old.world) result world.old world.new }
 {
     append(builder, &[unit_of(unit)], world)
 }
@@ -94,7 +94,7 @@ pub fn append_truth<N: Naming>(
     truth: i32,
     world: &mut World<N>,
 ) -> Result<NativeEnd, StepFault>
-    ensures { Answers (append_truth builder truth world.old) result world.old world.new }
+    ensures { Answers (append_truth builder truth world.old.world) result world.old world.new }
 {
     if truth == 0 {
         append(builder, &[0x66, 0x61, 0x6c, 0x73, 0x65], world)

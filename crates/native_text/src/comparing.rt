@@ -39,7 +39,7 @@ fn hash_of(units: &[u16]) -> i32
 
 /// `String.compareTo(String)`.
 pub fn text_compare<N: Naming>(text: u32, other: u32, world: &World<N>) -> NativeEnd
-    ensures { text_compare text other world.now ≡ answer_of result world.now }
+    ensures { text_compare text other world.now.world ≡ answer_of result world.now.world }
 {
     match world.text(text) {
         Some(units) => match world.text(other) {
@@ -52,7 +52,7 @@ pub fn text_compare<N: Naming>(text: u32, other: u32, world: &World<N>) -> Nativ
 
 /// `String.hashCode()`.
 pub fn text_hash<N: Naming>(text: u32, world: &World<N>) -> NativeEnd
-    ensures { text_hash text world.now ≡ answer_of result world.now }
+    ensures { text_hash text world.now.world ≡ answer_of result world.now.world }
 {
     match world.text(text) {
         Some(units) => NativeEnd::Gives(Some(Slot::Int(hash_of(units)))),

@@ -21,7 +21,7 @@ fn joined(alloc: Global, first: &[u16], second: &[u16]) -> Result<Units, AllocEr
 
 /// The units of a text, copied.
 pub(crate) fn text_copy<N: Naming>(text: u32, world: &World<N>) -> Result<Option<Units>, StepFault>
-    ensures { IfOk result (λ found. found ≡ seen as_text text world.now) }
+    ensures { IfOk result (λ found. found ≡ seen as_text text world.now.world) }
 {
     match world.text(text) {
         Some(units) => Ok(Some(Units::from_slice(world.allocator(), units)?)),
@@ -34,7 +34,7 @@ pub(crate) fn builder_copy<N: Naming>(
     builder: u32,
     world: &World<N>,
 ) -> Result<Option<Units>, StepFault>
-    ensures { IfOk result (λ found. found ≡ seen as_builder builder world.now) }
+    ensures { IfOk result (λ found. found ≡ seen as_builder builder world.now.world) }
 {
     match world.builder(builder) {
         Some(units) => Ok(Some(Units::from_slice(world.allocator(), units)?)),
@@ -48,7 +48,7 @@ pub(crate) fn joined_texts<N: Naming>(
     other: u32,
     world: &World<N>,
 ) -> Result<Option<Units>, StepFault>
-    ensures { IfOk result (λ found. found ≡ joined_texts text other world.now) }
+    ensures { IfOk result (λ found. found ≡ joined_texts text other world.now.world) }
 {
     match world.text(text) {
         Some(units) => match world.text(other) {
@@ -64,7 +64,7 @@ pub(crate) fn give_or_throw<N: Naming>(
     made: Result<Units, Throw>,
     world: &mut World<N>,
 ) -> Result<NativeEnd, StepFault>
-    ensures { Answers (text_or_thrown made world.old) result world.old world.new }
+    ensures { Answers (text_or_thrown made world.old.world) result world.old world.new }
 {
     match made {
         Ok(units) => world.give_text(units),

@@ -44,14 +44,14 @@ pub fn required(object: u32) -> NativeEnd
 
 /// The constructor of enums.
 pub fn enum_made<N: Naming>(object: u32, name: u32, ordinal: i32, world: &mut World<N>) -> NativeEnd
-    ensures { Answers (enum_made object name ordinal world.old) (Ok result) world.old world.new }
+    ensures { Answers (enum_made object name ordinal world.old.world) (Ok result) world.old world.new }
 {
     world.set_name(object, name, ordinal)
 }
 
 /// `Enum.name()` and `toString()`.
 pub fn enum_name<N: Naming>(object: u32, world: &World<N>) -> NativeEnd
-    ensures { enum_name object world.now ≡ answer_of result world.now }
+    ensures { enum_name object world.now.world ≡ answer_of result world.now.world }
 {
     match world.enum_name(object) {
         Some(name) => NativeEnd::Gives(Some(Slot::Ref(name))),
@@ -61,7 +61,7 @@ pub fn enum_name<N: Naming>(object: u32, world: &World<N>) -> NativeEnd
 
 /// `Enum.ordinal()`.
 pub fn enum_ordinal<N: Naming>(object: u32, world: &World<N>) -> NativeEnd
-    ensures { enum_ordinal object world.now ≡ answer_of result world.now }
+    ensures { enum_ordinal object world.now.world ≡ answer_of result world.now.world }
 {
     match world.enum_ordinal(object) {
         Some(ordinal) => NativeEnd::Gives(Some(Slot::Int(ordinal))),

@@ -92,7 +92,7 @@ fn no_number(alloc: Global, units: &[u16]) -> Result<NativeEnd, StepFault>
 
 /// `Integer.parseInt(String)`.
 pub fn int_parsed<N: Naming>(text: u32, world: &World<N>) -> Result<NativeEnd, StepFault>
-    ensures { IfOk result (λ end. int_parsed text world.now ≡ answer_of end world.now) }
+    ensures { IfOk result (λ end. int_parsed text world.now.world ≡ answer_of end world.now.world) }
 {
     match world.text(text) {
         Some(units) => match signed_within(units, 0x7fff_ffff) {
@@ -105,7 +105,7 @@ pub fn int_parsed<N: Naming>(text: u32, world: &World<N>) -> Result<NativeEnd, S
 
 /// `Long.parseLong(String)`.
 pub fn long_parsed<N: Naming>(text: u32, world: &World<N>) -> Result<NativeEnd, StepFault>
-    ensures { IfOk result (λ end. long_parsed text world.now ≡ answer_of end world.now) }
+    ensures { IfOk result (λ end. long_parsed text world.now.world ≡ answer_of end world.now.world) }
 {
     match world.text(text) {
         Some(units) => match signed_within(units, 0x7fff_ffff_ffff_ffff) {

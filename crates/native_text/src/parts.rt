@@ -39,7 +39,7 @@ fn part_from<N: Naming>(
     from: i32,
     world: &World<N>,
 ) -> Result<Result<Units, Throw>, StepFault>
-    ensures { IfOk result (λ found. text_from text from world.now ≡ text_or_thrown found world.now) }
+    ensures { IfOk result (λ found. text_from text from world.now.world ≡ text_or_thrown found world.now.world) }
 {
     match world.text(text) {
         Some(units) => Ok(part(world.allocator(), units, from, units.len() as i32)?),
@@ -54,7 +54,7 @@ fn part_between<N: Naming>(
     world: &World<N>,
 ) -> Result<Result<Units, Throw>, StepFault>
     ensures { IfOk result (λ found.
-        text_between text from to world.now ≡ text_or_thrown found world.now) }
+        text_between text from to world.now.world ≡ text_or_thrown found world.now.world) }
 {
     match world.text(text) {
         Some(units) => Ok(part(world.allocator(), units, from, to)?),
@@ -68,7 +68,7 @@ pub fn text_from<N: Naming>(
     from: i32,
     world: &mut World<N>,
 ) -> Result<NativeEnd, StepFault>
-    ensures { Answers (text_from text from world.old) result world.old world.new }
+    ensures { Answers (text_from text from world.old.world) result world.old world.new }
 {
     let found = part_from(text, from, world)?;
     give_or_throw(found, world)
@@ -81,7 +81,7 @@ pub fn text_between<N: Naming>(
     to: i32,
     world: &mut World<N>,
 ) -> Result<NativeEnd, StepFault>
-    ensures { Answers (text_between text from to world.old) result world.old world.new }
+    ensures { Answers (text_between text from to world.old.world) result world.old world.new }
 {
     let found = part_between(text, from, to, world)?;
     give_or_throw(found, world)
@@ -93,7 +93,7 @@ pub fn text_index<N: Naming>(
     other: u32,
     world: &World<N>,
 ) -> Result<NativeEnd, StepFault>
-    ensures { IfOk result (λ end. text_index text other world.now ≡ answer_of end world.now) }
+    ensures { IfOk result (λ end. text_index text other world.now.world ≡ answer_of end world.now.world) }
 {
     match world.text(text) {
         Some(units) => match world.text(other) {
@@ -113,7 +113,7 @@ pub fn text_contains<N: Naming>(
     other: u32,
     world: &World<N>,
 ) -> Result<NativeEnd, StepFault>
-    ensures { IfOk result (λ end. text_contains text other world.now ≡ answer_of end world.now) }
+    ensures { IfOk result (λ end. text_contains text other world.now.world ≡ answer_of end world.now.world) }
 {
     match world.text(text) {
         Some(units) => match world.text(other) {

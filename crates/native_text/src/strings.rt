@@ -11,7 +11,7 @@ use native_model::{Naming, NativeEnd, StepFault, Throw, World};
 
 /// `String.length()`.
 pub fn text_length<N: Naming>(text: u32, world: &World<N>) -> NativeEnd
-    ensures { text_length text world.now ≡ answer_of result world.now }
+    ensures { text_length text world.now.world ≡ answer_of result world.now.world }
 {
     match world.text(text) {
         Some(units) => NativeEnd::Gives(Some(Slot::Int(units.len() as i32))),
@@ -21,7 +21,7 @@ pub fn text_length<N: Naming>(text: u32, world: &World<N>) -> NativeEnd
 
 /// `String.isEmpty()`.
 pub fn text_is_empty<N: Naming>(text: u32, world: &World<N>) -> NativeEnd
-    ensures { text_is_empty text world.now ≡ answer_of result world.now }
+    ensures { text_is_empty text world.now.world ≡ answer_of result world.now.world }
 {
     match world.text(text) {
         Some(units) => NativeEnd::truth(units.is_empty()),
@@ -31,7 +31,7 @@ pub fn text_is_empty<N: Naming>(text: u32, world: &World<N>) -> NativeEnd
 
 /// `String.charAt(int)`.
 pub fn text_char_at<N: Naming>(text: u32, index: i32, world: &World<N>) -> NativeEnd
-    ensures { text_char_at text index world.now ≡ answer_of result world.now }
+    ensures { text_char_at text index world.now.world ≡ answer_of result world.now.world }
 {
     match world.text(text) {
         Some(units) => {
@@ -47,7 +47,7 @@ pub fn text_char_at<N: Naming>(text: u32, index: i32, world: &World<N>) -> Nativ
 
 /// `String.startsWith(String)`.
 pub fn text_starts<N: Naming>(text: u32, other: u32, world: &World<N>) -> NativeEnd
-    ensures { text_starts text other world.now ≡ answer_of result world.now }
+    ensures { text_starts text other world.now.world ≡ answer_of result world.now.world }
 {
     match world.text(text) {
         Some(units) => match world.text(other) {
@@ -60,7 +60,7 @@ pub fn text_starts<N: Naming>(text: u32, other: u32, world: &World<N>) -> Native
 
 /// `String.endsWith(String)`.
 pub fn text_ends<N: Naming>(text: u32, other: u32, world: &World<N>) -> NativeEnd
-    ensures { text_ends text other world.now ≡ answer_of result world.now }
+    ensures { text_ends text other world.now.world ≡ answer_of result world.now.world }
 {
     match world.text(text) {
         Some(units) => match world.text(other) {
@@ -73,7 +73,7 @@ pub fn text_ends<N: Naming>(text: u32, other: u32, world: &World<N>) -> NativeEn
 
 /// `String.equals(Object)`.
 pub fn text_equals<N: Naming>(text: u32, other: u32, world: &World<N>) -> NativeEnd
-    ensures { text_equals text other world.now ≡ answer_of result world.now }
+    ensures { text_equals text other world.now.world ≡ answer_of result world.now.world }
 {
     match world.text(text) {
         Some(units) => match world.text(other) {
@@ -97,7 +97,7 @@ pub fn text_concat<N: Naming>(
     other: u32,
     world: &mut World<N>,
 ) -> Result<NativeEnd, StepFault>
-    ensures { Answers (text_concat text other world.old) result world.old world.new }
+    ensures { Answers (text_concat text other world.old.world) result world.old world.new }
 {
     match joined_texts(text, other, world)? {
         Some(units) => world.give_text(units),

@@ -42,7 +42,7 @@ fn truth_units(alloc: Global, truth: i32) -> Result<Units, AllocError>
 
 /// `Integer.toString(int)` and `Long.toString(long)`.
 pub fn int_text<N: Naming>(n: i64, world: &mut World<N>) -> Result<NativeEnd, StepFault>
-    ensures { Answers (int_text n world.old) result world.old world.new }
+    ensures { Answers (int_text n world.old.world) result world.old world.new }
 {
     let units = decimal(world.allocator(), n)?;
     world.give_text(units)
@@ -50,7 +50,7 @@ pub fn int_text<N: Naming>(n: i64, world: &mut World<N>) -> Result<NativeEnd, St
 
 /// `String.valueOf(int)` and `String.valueOf(long)`.
 pub fn text_of_number<N: Naming>(n: i64, world: &mut World<N>) -> Result<NativeEnd, StepFault>
-    ensures { Answers (text_of_number n world.old) result world.old world.new }
+    ensures { Answers (text_of_number n world.old.world) result world.old world.new }
 {
     let units = decimal(world.allocator(), n)?;
     world.give_text(units)
@@ -58,7 +58,7 @@ pub fn text_of_number<N: Naming>(n: i64, world: &mut World<N>) -> Result<NativeE
 
 /// `String.valueOf(boolean)`.
 pub fn text_of_truth<N: Naming>(n: i32, world: &mut World<N>) -> Result<NativeEnd, StepFault>
-    ensures { Answers (text_of_truth n world.old) result world.old world.new }
+    ensures { Answers (text_of_truth n world.old.world) result world.old world.new }
 {
     let units = truth_units(world.allocator(), n)?;
     world.give_text(units)
@@ -66,7 +66,7 @@ pub fn text_of_truth<N: Naming>(n: i32, world: &mut World<N>) -> Result<NativeEn
 
 /// `String.valueOf(char)`.
 pub fn text_of_char<N: Naming>(n: i32, world: &mut World<N>) -> Result<NativeEnd, StepFault>
-    ensures { Answers (text_of_char n world.old) result world.old world.new }
+    ensures { Answers (text_of_char n world.old.world) result world.old world.new }
 {
     let units = Units::from_slice(world.allocator(), &[unit_of(n)])?;
     world.give_text(units)
@@ -78,7 +78,7 @@ pub fn append_number<N: Naming>(
     n: i64,
     world: &mut World<N>,
 ) -> Result<NativeEnd, StepFault>
-    ensures { Answers (append_number builder n world.old) result world.old world.new }
+    ensures { Answers (append_number builder n world.old.world) result world.old world.new }
 {
     let units = decimal(world.allocator(), n)?;
     append(builder, units.as_slice(), world)
@@ -86,7 +86,7 @@ pub fn append_number<N: Naming>(
 
 /// `Integer.toString()`.
 pub fn int_box_text<N: Naming>(object: u32, world: &mut World<N>) -> Result<NativeEnd, StepFault>
-    ensures { Answers (int_box_text object world.old) result world.old world.new }
+    ensures { Answers (int_box_text object world.old.world) result world.old world.new }
 {
     match world.int(object) {
         Some(n) => {
@@ -99,7 +99,7 @@ pub fn int_box_text<N: Naming>(object: u32, world: &mut World<N>) -> Result<Nati
 
 /// `Long.toString()`.
 pub fn long_box_text<N: Naming>(object: u32, world: &mut World<N>) -> Result<NativeEnd, StepFault>
-    ensures { Answers (long_box_text object world.old) result world.old world.new }
+    ensures { Answers (long_box_text object world.old.world) result world.old world.new }
 {
     match world.long(object) {
         Some(n) => {
@@ -115,7 +115,7 @@ pub fn boolean_box_text<N: Naming>(
     object: u32,
     world: &mut World<N>,
 ) -> Result<NativeEnd, StepFault>
-    ensures { Answers (boolean_box_text object world.old) result world.old world.new }
+    ensures { Answers (boolean_box_text object world.old.world) result world.old world.new }
 {
     match world.boolean(object) {
         Some(is) => {

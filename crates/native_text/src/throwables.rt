@@ -15,14 +15,14 @@ pub fn throwable_made<N: Naming>(
     cause: u32,
     world: &mut World<N>,
 ) -> NativeEnd
-    ensures { Answers (throwable_made object message cause world.old) (Ok result) world.old world.new }
+    ensures { Answers (throwable_made object message cause world.old.world) (Ok result) world.old world.new }
 {
     world.set_message(object, message, cause)
 }
 
 /// `Throwable.getMessage()`.
 pub fn throwable_message<N: Naming>(object: u32, world: &World<N>) -> NativeEnd
-    ensures { throwable_message object world.now ≡ answer_of result world.now }
+    ensures { throwable_message object world.now.world ≡ answer_of result world.now.world }
 {
     match world.message(object) {
         Some(message) => NativeEnd::Gives(Some(Slot::Ref(message))),
@@ -32,7 +32,7 @@ pub fn throwable_message<N: Naming>(object: u32, world: &World<N>) -> NativeEnd
 
 /// `Throwable.getCause()`.
 pub fn throwable_cause<N: Naming>(object: u32, world: &World<N>) -> NativeEnd
-    ensures { throwable_cause object world.now ≡ answer_of result world.now }
+    ensures { throwable_cause object world.now.world ≡ answer_of result world.now.world }
 {
     match world.cause(object) {
         Some(cause) => NativeEnd::Gives(Some(Slot::Ref(cause))),
