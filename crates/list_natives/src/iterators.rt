@@ -9,7 +9,7 @@ use native_model::{Naming, NativeEnd, StepFault, Throw, World};
 
 /// `List.iterator()`.
 pub fn list_iterator<N: Naming>(list: u32, world: &mut World<N>) -> Result<NativeEnd, StepFault>
-    ensures { Answers (list_iterator list world.old) result world.old world.new }
+    ensures { Answers (list_iterator list world.old.world) result world.old world.new }
 {
     match world.list(list) {
         Some(_) => world.give_iterator(list),
@@ -19,7 +19,7 @@ pub fn list_iterator<N: Naming>(list: u32, world: &mut World<N>) -> Result<Nativ
 
 /// `Iterator.hasNext()`, of the list as it now is.
 pub fn iterator_has_next<N: Naming>(iterator: u32, world: &World<N>) -> NativeEnd
-    ensures { iterator_has_next iterator world.now ≡ answer_of result world.now }
+    ensures { iterator_has_next iterator world.now.world ≡ answer_of result world.now.world }
 {
     match world.iterator(iterator) {
         Some((list, next)) => match world.list(list) {
@@ -32,7 +32,7 @@ pub fn iterator_has_next<N: Naming>(iterator: u32, world: &World<N>) -> NativeEn
 
 /// `Iterator.next()`.
 pub fn iterator_next<N: Naming>(iterator: u32, world: &mut World<N>) -> NativeEnd
-    ensures { Answers (iterator_next iterator world.old) (Ok result) world.old world.new }
+    ensures { Answers (iterator_next iterator world.old.world) (Ok result) world.old world.new }
 {
     let Some((list, next)) = world.iterator(iterator) else {
         return NativeEnd::Throws(Throw::ClassCast);

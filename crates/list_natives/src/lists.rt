@@ -36,7 +36,7 @@ pub fn list_made_for(list: u32, room: i32) -> NativeEnd
 
 /// `List.size()`.
 pub fn list_size<N: Naming>(list: u32, world: &World<N>) -> NativeEnd
-    ensures { list_size list world.now ≡ answer_of result world.now }
+    ensures { list_size list world.now.world ≡ answer_of result world.now.world }
 {
     match world.list(list) {
         Some((_, elements)) => NativeEnd::Gives(Some(Slot::Int(elements.len() as i32))),
@@ -46,7 +46,7 @@ pub fn list_size<N: Naming>(list: u32, world: &World<N>) -> NativeEnd
 
 /// `List.isEmpty()`.
 pub fn list_is_empty<N: Naming>(list: u32, world: &World<N>) -> NativeEnd
-    ensures { list_is_empty list world.now ≡ answer_of result world.now }
+    ensures { list_is_empty list world.now.world ≡ answer_of result world.now.world }
 {
     match world.list(list) {
         Some((_, elements)) => NativeEnd::truth(elements.is_empty()),
@@ -56,7 +56,7 @@ pub fn list_is_empty<N: Naming>(list: u32, world: &World<N>) -> NativeEnd
 
 /// `List.get(int)`.
 pub fn list_get<N: Naming>(list: u32, index: i32, world: &World<N>) -> NativeEnd
-    ensures { list_get list index world.now ≡ answer_of result world.now }
+    ensures { list_get list index world.now.world ≡ answer_of result world.now.world }
 {
     match world.list(list) {
         Some((_, elements)) => {
@@ -72,7 +72,7 @@ pub fn list_get<N: Naming>(list: u32, index: i32, world: &World<N>) -> NativeEnd
 
 /// `List.set(int, Object)`, which gives the element that was there.
 pub fn list_set<N: Naming>(list: u32, index: i32, element: u32, world: &mut World<N>) -> NativeEnd
-    ensures { Answers (list_set list index element world.old) (Ok result) world.old world.new }
+    ensures { Answers (list_set list index element world.old.world) (Ok result) world.old world.new }
 {
     let Some((class, elements)) = world.list(list) else {
         return NativeEnd::Throws(Throw::ClassCast);
@@ -94,7 +94,7 @@ pub fn list_add<N: Naming>(
     element: u32,
     world: &mut World<N>,
 ) -> Result<NativeEnd, StepFault>
-    ensures { Answers (list_add list element world.old) result world.old world.new }
+    ensures { Answers (list_add list element world.old.world) result world.old world.new }
 {
     let Some((class, _)) = world.list(list) else {
         return Ok(NativeEnd::Throws(Throw::ClassCast));
@@ -129,7 +129,7 @@ fn has_null(elements: &[u32]) -> bool
 
 /// `List.of` of some elements.
 pub fn list_of<N: Naming>(elements: Vec<u32>, world: &mut World<N>) -> Result<NativeEnd, StepFault>
-    ensures { Answers (list_of elements.items world.old) result world.old world.new }
+    ensures { Answers (list_of elements.items world.old.world) result world.old world.new }
 {
     if has_null(elements.as_slice()) {
         return Ok(NativeEnd::Throws(Throw::NullPointer));
@@ -140,7 +140,7 @@ pub fn list_of<N: Naming>(elements: Vec<u32>, world: &mut World<N>) -> Result<Na
 /// The references in an array, copied.
 fn array_numbers<N: Naming>(array: u32, world: &World<N>) -> Result<Option<Vec<u32>>, StepFault>
     ensures { IfOk result (λ found. option_map (λ v. v.items) found
-        ≡ option_map (λ a. map number_in a.1) (seen as_array array world.now)) }
+        ≡ option_map (λ a. map number_in a.1) (seen as_array array world.now.world)) }
 {
     match world.array(array) {
         Some(slots) => Ok(Some(numbers_in(world.allocator(), slots)?)),
@@ -150,7 +150,7 @@ fn array_numbers<N: Naming>(array: u32, world: &World<N>) -> Result<Option<Vec<u
 
 /// `List.of(Object[])`.
 pub fn list_of_array<N: Naming>(array: u32, world: &mut World<N>) -> Result<NativeEnd, StepFault>
-    ensures { Answers (list_of_array array world.old) result world.old world.new }
+    ensures { Answers (list_of_array array world.old.world) result world.old world.new }
 {
     match array_numbers(array, world)? {
         Some(elements) => list_of(elements, world),

@@ -19,8 +19,8 @@ pub fn list_each<N: Naming>(
     progress: &Progress,
     world: &World<N>,
 ) -> NativeEnd
-    ensures { list_each list consumer (progress_of progress.now) world.now
-        ≡ answer_of result world.now }
+    ensures { list_each list consumer (progress_of progress.now) world.now.world
+        ≡ answer_of result world.now.world }
 {
     let Some((_, elements)) = world.list(list) else {
         return NativeEnd::Throws(Throw::ClassCast);
@@ -40,7 +40,7 @@ pub fn list_map<N: Naming>(
     progress: &Progress,
     world: &mut World<N>,
 ) -> Result<NativeEnd, StepFault>
-    ensures { Answers (list_map list function (progress_of progress.now) world.old)
+    ensures { Answers (list_map list function (progress_of progress.now) world.old.world)
         result world.old world.new }
 {
     let Some((_, elements)) = world.list(list) else {
@@ -86,7 +86,7 @@ pub fn list_filter<N: Naming>(
     progress: &Progress,
     world: &mut World<N>,
 ) -> Result<NativeEnd, StepFault>
-    ensures { Answers (list_filter list predicate (progress_of progress.now) world.old)
+    ensures { Answers (list_filter list predicate (progress_of progress.now) world.old.world)
         result world.old world.new }
 {
     let Some((_, elements)) = world.list(list) else {
@@ -109,8 +109,8 @@ pub fn list_fold<N: Naming>(
     progress: &Progress,
     world: &World<N>,
 ) -> NativeEnd
-    ensures { list_fold list first function (progress_of progress.now) world.now
-        ≡ answer_of result world.now }
+    ensures { list_fold list first function (progress_of progress.now) world.now.world
+        ≡ answer_of result world.now.world }
 {
     let Some((_, elements)) = world.list(list) else {
         return NativeEnd::Throws(Throw::ClassCast);

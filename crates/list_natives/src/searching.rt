@@ -23,8 +23,8 @@ pub fn list_contains<N: Naming>(
     progress: &Progress,
     world: &World<N>,
 ) -> NativeEnd
-    ensures { list_contains list object (progress_of progress.now) world.now
-        ≡ answer_of result world.now }
+    ensures { list_contains list object (progress_of progress.now) world.now.world
+        ≡ answer_of result world.now.world }
 {
     let Some((_, elements)) = world.list(list) else {
         return NativeEnd::Throws(Throw::ClassCast);
@@ -50,8 +50,8 @@ pub fn list_index<N: Naming>(
     world: &World<N>,
 ) -> NativeEnd
     requires { progress.now.answered < 2 ^ 31 }
-    ensures { list_index list object (progress_of progress.now) world.now
-        ≡ answer_of result world.now }
+    ensures { list_index list object (progress_of progress.now) world.now.world
+        ≡ answer_of result world.now.world }
 {
     let Some((_, elements)) = world.list(list) else {
         return NativeEnd::Throws(Throw::ClassCast);
