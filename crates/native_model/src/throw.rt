@@ -1,7 +1,7 @@
 //! What natives and instructions throw.
 
-use class_model::Name;
 use jvm_heap::Units;
+use tree_value::Bytes;
 
 /// What a task body has no access to.
 #[derive(Clone, Copy, Drop)]
@@ -31,9 +31,12 @@ pub enum Throw {
     NegativeSize(i32),
     /// The text that is no number.
     NumberFormat(Units),
-    AbsentClass(Name),
-    AbsentMethod(Name),
-    AbsentField(Name),
+    /// The name of the class.
+    AbsentClass(Bytes),
+    /// The name of the method alone.
+    AbsentMethod(Bytes),
+    /// The name of the field alone.
+    AbsentField(Bytes),
     Denied(Denial),
     /// The units of the path.
     FileFault(Units),
