@@ -30,13 +30,13 @@ use Rattle.jvm_heap.specs.Heaps.{allocated, fresh_array, constant_text, slot_at,
 use Rattle.native_model.specs.declared.budget.Budget.TheVariants as budgets
 use Rattle.native_model.specs.Answers.{truth}
 use Rattle.native_model.specs.Strings.{is_index}
-use Rattle.native_model.specs.Worlds.{NamedObject, NamedHeap, World, array_name, class_of}
+use Rattle.native_model.specs.Worlds.{NamedObject, NamedHeap, World, class_of}
 use Rattle.native_model.specs.Thrown.{null_pointer, incompatible_change, unsupported, class_cast, array_store, array_bounds, absent_field}
 use Rattle.jvm_model.specs.Plans.{resolve_field, layout_of}
 use Rattle.jvm_model.specs.States.{MethodFrame, Called, concatenation, Pending, reads, writes, makes, Shared, with_operands}
 use Rattle.jvm_model.specs.Attempts.{Attempt, gives, throws, sticks, asked, or_stuck, or_out, ◌>>=◌}
 use Rattle.jvm_model.specs.Actions.{first_of, target_of}
-use Rattle.jvm_model.specs.Types.{type_named, is_instance, is_known, facts, object_of, holds_or}
+use Rattle.jvm_model.specs.Types.{type_named, array_type, is_instance, is_known, facts, object_of, holds_or}
 use Rattle.jvm_model.specs.Calls.{Callee, checked, resolved, if_static, virtual_callee, special_callee, static_target}
 use Rattle.jvm_model.specs.Frames.{in_heap, slot_of, arguments_taken}
 use Rattle.jvm_model.specs.Initialising.{same_member}
@@ -180,7 +180,7 @@ component_holds _ n w = sticks
 
 -- The element is of the type of the array's components, or null.
 abbrev pub can_hold : ArrayKind (List ℕ) → Slot → World → Attempt (Unit {0})
-can_hold kind (Ref (suc n)) w = component_holds (type_named (array_name kind)) (suc n) w
+can_hold kind (Ref (suc n)) w = component_holds (array_type kind) (suc n) w
 can_hold kind _ w = gives tt
 
 abbrev pub element_stored : ValueKind → (ArrayKind (List ℕ) → Bool) → MethodFrame → Shared → Attempt Effect

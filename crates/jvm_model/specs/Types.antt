@@ -1,14 +1,15 @@
 -- Types of objects, and what an object may be used as (JVMS 4.10.1.2, 6.5 checkcast).
-use Rattle.std.specs.Prelude.{ℕ, ◌==◌, Bool, true, false, List, codes, bytes_eq, Option, Some, None, unwrap_or, if◌then◌else◌}
+use Rattle.std.specs.Prelude.{ℕ, ◌==◌, Bool, true, false, List, codes, bytes_eq, slice_get, Option, Some, None, unwrap_or, if◌then◌else◌}
 use Rattle.class_model.specs.Constants.{is_array_descriptor}
 use Rattle.class_model.specs.Descriptors.{FieldType, field_type}
 use Rattle.class_model.specs.Descriptors as types
+use Rattle.class_model.specs.TypeForms.{arrays}
 use Rattle.class_index.specs.Naming.{ClassFacts}
 use Rattle.class_code.specs.Sites.{interface}
 use Rattle.class_code.specs.Uses.{class_of_type}
-use Rattle.jvm_heap.specs.Objects.{array, lambda}
+use Rattle.jvm_heap.specs.Objects.{Base, primitive, of_class, ArrayKind, array, lambda}
 use Rattle.jvm_heap.specs.Heaps.{object_at}
-use Rattle.native_model.specs.Worlds.{Origin, NamedObject, World, array_name, class_of}
+use Rattle.native_model.specs.Worlds.{Origin, NamedObject, World, letter_of, class_of}
 use Rattle.native_model.specs.Thrown.{Thrown, absent_class}
 use Rattle.jvm_model.specs.Plans.{class_of as facts_of, below}
 use Rattle.jvm_model.specs.Attempts.{Attempt, gives, throws, asked, or_stuck, ◌>>=◌}
@@ -24,9 +25,18 @@ object_class = codes "java/lang/Object"
 abbrev pub interface_of : Origin → List ℕ
 interface_of origin = unwrap_or (interface origin.site) object_class
 
+-- what an array is made of in the end, by its letter or by its class
+abbrev pub base_type : Base (List ℕ) → FieldType
+base_type (primitive kind) = types.primitive (unwrap_or (slice_get (letter_of kind) 0) 0)
+base_type (of_class name) = types.object name
+
+-- the type of the arrays of a kind
+abbrev pub array_type : ArrayKind (List ℕ) → FieldType
+array_type kind = arrays kind.depth (base_type kind.base)
+
 -- A lambda is of its interface.
 abbrev pub type_of : NamedObject → FieldType
-type_of (array kind elements) = type_named (array_name kind)
+type_of (array kind elements) = array_type kind
 type_of (lambda origin captured) = types.object (interface_of origin)
 type_of o = types.object (class_of o)
 
