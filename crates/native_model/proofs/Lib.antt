@@ -1,4 +1,6 @@
 pub mod Told
 pub mod Changed
+pub mod Files
 mod Listing
 mod Parts
+mod Putting

@@ -1,6 +1,6 @@
 -- What the machine reads and changes in a heap, as the world of a body shows it.
 use Rattle.std.proofs.Common.{◌≡◌, ℕ, List, refl, sym, subst, ap, ◌∙◌}
-use Rattle.std.specs.Prelude.{Option, Some, None, IsSome, IfOk, OnErr, option_map, Result, Ok, Err}
+use Rattle.std.specs.Prelude.{Option, Some, None, IsSome, IfOk, OnErr, option_map, option_and_then, Result, Ok, Err}
 use Rattle.class_model.specs.declared.identifiers.ClassId.{ClassId}
 use Rattle.class_model.specs.declared.identifiers.SiteId.{SiteId}
 use Rattle.jvm_heap.specs.declared.slot.Slot.{Slot}
@@ -10,8 +10,12 @@ use Rattle.jvm_heap.specs.Heaps.{Heap, object_at, slot_at, with_slot}
 use Rattle.jvm_heap.specs.Changes.{Makes}
 use Rattle.jvm_heap.specs.Renaming.{renamed, renamed_object, renamed_made}
 use Rattle.jvm_heap.proofs.Renamed.{heaps_renamed}
-use Rattle.native_model.specs.Worlds.{Origin, NamedHeap, Surround, World, Placed, in_heap}
-use Rattle.native_model.specs.Ends.{named_world}
+use Rattle.native_model.specs.declared.fault.StepFault.{StepFault}
+use Rattle.native_model.specs.declared.native_end.NativeEnd.{NativeEnd}
+use Rattle.native_model.specs.Worlds.{Origin, NamedObject, NamedHeap, Surround, World, Placed, in_heap, seen}
+use Rattle.native_model.specs.Answers.{gives_made}
+use Rattle.native_model.specs.Ends.{named_world, end_of_making, Answers}
+use Rattle.native_model.proofs.Told.{looked, made_in, named}
 
 none_before : {A B : Type 0} (q : A → B) (o : Option A) → option_map q o ≡ None → o ≡ None
 none_before q None is = refl
@@ -62,3 +66,14 @@ module _ {N : Type 0} (class_name : N → ClassId → List ℕ) (site_origin : N
   slot_written number place slot old new w is change =
       subst (λ v. with_slot number place slot v.world.heap ≡ Some (by_name new)) is
       ((heaps_renamed (class_name n) (site_origin n)).with_slot number place slot old ∙ ap (option_map (renamed (class_name n) (site_origin n))) change)
+
+  -- what is told of an object by the names of its world
+  pub told_there : {A : Type 0} (told : N → Option A) (what : NamedObject → Option A) (number : ℕ) (h : Heap ClassId SiteId) (w : Placed N) (found : Option (Object ClassId SiteId)) → shown h ≡ w → found ≡ object_at number h → told n ≡ option_and_then (λ o. what (renamed_object (class_name n) (site_origin n) o)) found → told w.names ≡ seen what number w.world
+  told_there told what number h w found is there says =
+      subst (λ v. told v.names ≡ seen what number v.world) is
+      (looked (class_name n) (site_origin n) what number h dest log surround owner (shown h).world found (told n) refl there says)
+
+  pub given_there : (make : N → NamedHeap → Option (ℕ × NamedHeap)) (defined : Option (ℕ × Heap ClassId SiteId)) (r : Result ℕ HeapFault) (old new : Heap ClassId SiteId) (w : Placed N) (end : Result NativeEnd StepFault) → shown old ≡ w → make n (by_name old) ≡ option_map (renamed_made (class_name n) (site_origin n)) defined → Makes defined r old new → end ≡ end_of_making r → Answers (gives_made w.world (make w.names w.world.heap)) end w (shown new)
+  given_there make defined r old new w end is same makes ends =
+      subst (λ v. Answers (gives_made v.world (make v.names v.world.heap)) end v (shown new)) is
+      (named (made_in (class_name n) (site_origin n) (make n) dest log surround owner defined r old new (shown old).world end refl same makes ends) refl)

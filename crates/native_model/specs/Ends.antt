@@ -1,5 +1,5 @@
 -- What the code's values say: how far a native is, what it answers, and what it throws.
-use Rattle.std.specs.Prelude.{◌≡◌, ℕ, List, [], ◌∷◌, ◌++◌, length, codes, Option, Some, Result, Ok, Err, IfOk, OnErr}
+use Rattle.std.specs.Prelude.{◌≡◌, ℕ, Bool, true, false, List, [], ◌∷◌, ◌++◌, length, codes, Option, Some, None, Result, Ok, Err, IfOk, OnErr}
 use Rattle.class_model.specs.declared.identifiers.ClassId.{ClassId}
 use Rattle.class_model.specs.declared.identifiers.SiteId.{SiteId}
 use Rattle.jvm_heap.specs.Objects.{builder}
@@ -7,8 +7,10 @@ use Rattle.jvm_heap.specs.Heaps.{Heap, grown}
 use Rattle.jvm_heap.specs.Renaming.{renamed}
 use Rattle.jvm_heap.specs.declared.fault.HeapFault.{HeapFault}
 use Rattle.jvm_heap.specs.declared.fault.HeapFault.TheVariants as heap_faults
+use Rattle.jvm_heap.specs.declared.content.PathReference.{PathReference}
 use Rattle.jvm_heap.specs.declared.slot.Slot.{Slot}
 use Rattle.jvm_heap.specs.declared.slot.Slot.TheVariants.{Ref}
+use Rattle.native_model.specs.declared.budget.Budget.{Budget}
 use Rattle.native_model.specs.declared.budget.Budget.TheVariants.{Cells}
 use Rattle.native_model.specs.declared.fault.StepFault.{StepFault}
 use Rattle.native_model.specs.declared.fault.StepFault.TheVariants as faults
@@ -23,7 +25,7 @@ use Rattle.native_model.specs.declared.native_end.Handed.{Handed}
 use Rattle.native_model.specs.declared.native_end.Handed.TheVariants as handed
 use Rattle.native_model.specs.declared.native_end.NativeEnd.{NativeEnd}
 use Rattle.native_model.specs.declared.native_end.NativeEnd.TheVariants as ends
-use Rattle.native_model.specs.Worlds.{Origin, Surround, World, Placed, as_builder}
+use Rattle.native_model.specs.Worlds.{Origin, Surround, World, Placed, Reference, as_builder}
 use Rattle.native_model.specs.Thrown as thrown
 use Rattle.native_model.specs.Answers as answers
 
@@ -78,13 +80,17 @@ slots_of (handed.One a) = Ref a ∷ []
 slots_of (handed.Two a b) = Ref a ∷ Ref b ∷ []
 slots_of (handed.Three a b c) = Ref a ∷ Ref b ∷ Ref c ∷ []
 
+-- a reference by its parts
+abbrev pub reference_of : PathReference → Reference
+reference_of reference = record { owner = reference.owner; path = reference.path }
+
 -- what a native answers, where it leaves a world
 abbrev pub answer_of : NativeEnd → World → answers.Answer
 answer_of (ends.Gives slot) w = answers.gives slot w
 answer_of (ends.Throws what) w = answers.throws (thrown_of what)
 answer_of (ends.CallsBack callback slots) w = answers.calls callback (slots_of slots)
-answer_of (ends.NeedsFile reference path) w = answers.needs_file (record { owner = reference.owner; path = reference.path }) path
-answer_of (ends.NeedsNames reference) w = answers.needs_names (record { owner = reference.owner; path = reference.path })
+answer_of (ends.NeedsFile reference path) w = answers.needs_file (reference_of reference) path
+answer_of (ends.NeedsNames reference) w = answers.needs_names (reference_of reference)
 answer_of (ends.Spends budget) w = answers.spends budget
 
 -- what is answered where an object is made, or a list or builder made larger
@@ -97,6 +103,12 @@ abbrev pub end_of_growing : Option Slot → Result Unit HeapFault → Result Nat
 end_of_growing slot (Ok done) = Ok (ends.Gives slot)
 end_of_growing slot (Err heap_faults.Full) = Ok (ends.Spends Cells)
 end_of_growing slot (Err heap_faults.Memory) = Err faults.Memory
+
+-- what is answered where a file or a line is put; false where the bytes don't suffice
+abbrev pub end_of_putting : {E : Type 0} → Budget → Result Bool E → Result NativeEnd StepFault
+end_of_putting budget (Ok true) = Ok (ends.Gives None)
+end_of_putting budget (Ok false) = Ok (ends.Spends budget)
+end_of_putting budget (Err fault) = Err faults.Memory
 
 -- units are put behind those of a builder, and then something is given
 abbrev pub builder_enlarged : Option Slot → ℕ → List ℕ → World → answers.Answer

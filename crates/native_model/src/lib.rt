@@ -5,6 +5,7 @@
 //! `World` that is kept here.
 #![tactic(auto)]
 
+mod arrays;
 mod budget;
 mod dest;
 mod fault;
@@ -15,6 +16,8 @@ mod making;
 mod naming;
 mod native_end;
 mod objects;
+mod outside;
+mod place;
 mod progress;
 mod seen;
 mod surround;
@@ -28,6 +31,7 @@ pub use laws::natives_take_what_is_stated;
 pub use log::Log;
 pub use naming::Naming;
 pub use native_end::{Handed, NativeEnd};
+pub use place::Place;
 pub use progress::{Last, NativeFrame, Progress, is_true};
 pub use surround::Surround;
 pub use throw::{Denial, Throw};

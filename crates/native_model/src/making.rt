@@ -1,17 +1,19 @@
 //! What is answered where an object is made or made larger.
 
 ghost use Rattle.std.specs.Prelude.{◌≡◌};
-ghost use Rattle.jvm_heap.specs.Objects.{text, listed, iterator};
+ghost use Rattle.jvm_heap.specs.Objects.{array, text, listed, iterator, path_reference};
+ghost use Rattle.jvm_heap.specs.Contents.{kind_of};
 ghost use Rattle.jvm_heap.specs.Heaps.{allocated};
 ghost use Rattle.jvm_heap.specs.Changes.{Makes};
-ghost use Rattle.native_model.specs.Ends.{end_of_making, end_of_growing};
+ghost use Rattle.native_model.specs.Ends.{end_of_making, end_of_growing, end_of_putting};
 
 use crate::budget::Budget;
 use crate::fault::StepFault;
 use crate::native_end::NativeEnd;
 use class_model::ClassId;
-use jvm_heap::{Content, Heap, HeapFault, Object, Slot, Units};
-use sqlite_items::Items;
+use jvm_heap::{ArrayKind, Content, Heap, HeapFault, Object, PathReference, Slot, Slots, Units};
+use sqlite_items::{Boxed, Items};
+use std::alloc::AllocError;
 
 pub(crate) fn end_of_making(made: Result<u32, HeapFault>) -> Result<NativeEnd, StepFault>
     ensures { result ≡ end_of_making made }
@@ -36,6 +38,20 @@ pub(crate) fn end_of_growing(
     }
 }
 
+/// What is answered where a file or a line is put; false where the bytes don't suffice.
+pub(crate) fn end_of_putting(
+    put: Result<bool, AllocError>,
+    budget: Budget,
+) -> Result<NativeEnd, StepFault>
+    ensures { result ≡ end_of_putting budget put }
+{
+    match put {
+        Ok(true) => Ok(NativeEnd::Gives(None)),
+        Ok(false) => Ok(NativeEnd::Spends(budget)),
+        Err(_) => Err(StepFault::Memory),
+    }
+}
+
 pub(crate) fn put_text(heap: &mut Heap, units: Units) -> Result<u32, HeapFault>
     ensures { Makes (allocated (text units) heap.old) result heap.old heap.new }
 {
@@ -57,4 +73,20 @@ pub(crate) fn put_iterator(heap: &mut Heap, list: u32) -> Result<u32, HeapFault>
     ensures { Makes (allocated (iterator list 0) heap.old) result heap.old heap.new }
 {
     heap.allocate(Object::of(Content::Iterator { list, next: 0 }))
+}
+
+pub(crate) fn put_reference(
+    heap: &mut Heap,
+    reference: Boxed<PathReference>,
+) -> Result<u32, HeapFault>
+    ensures { Makes (allocated (path_reference reference.owner reference.path) heap.old)
+        result heap.old heap.new }
+{
+    heap.allocate(Object::of(Content::PathReference { reference }))
+}
+
+pub(crate) fn put_array(heap: &mut Heap, kind: ArrayKind, elements: Slots) -> Result<u32, HeapFault>
+    ensures { Makes (allocated (array (kind_of kind) elements) heap.old) result heap.old heap.new }
+{
+    heap.allocate(Object::of(Content::Array { kind, elements }))
 }
