@@ -1,9 +1,9 @@
 -- Attributes.
-use Rattle.std.proofs.Common.{◌≡◌, ℕ, ◌+◌, ◌<◌, ◌≤◌, ◌^◌, Bool, true, false, not, List, [], length, take, get_or, map, refl, ap, subst, ◌∙◌}
+use Rattle.std.proofs.Common.{◌≡◌, ℕ, ◌<◌, ◌^◌, Bool, true, false, not, List, [], ◌∷◌, length, map, Option, None, ap, subst, ◌∙◌}
+use Rattle.std.specs.List.{AllByRecursion}
 use Rattle.std.specs.Str.{bytes_eq}
 use Rattle.std.specs.Cmp.Lexicographic.{nat_list_eq_equiv}
 use Rattle.std.proofs.lemmas.Bool.{and_parts, and_from}
-use Rattle.std.proofs.lemmas.List.{take_all}
 use Rattle.std.proofs.lemmas.Slice.Eq.{bytes_eq-Decides}
 use Rattle.class_model.specs.declared.constant_pool.Pool.{Pool}
 use Rattle.class_model.specs.declared.attribute_forms.Attribute.{Attribute, out-Attribute}
@@ -11,11 +11,15 @@ use Rattle.class_model.specs.Attributes.{Place, HasForm, IsCodeAttribute, IsCode
 use Rattle.class_model.specs.Shape.{is_code_layer}
 use Rattle.class_model.specs.Spelling as spelling
 use Rattle.const_pool.specs.declared.write_fault.Holder.{Holder}
+use Rattle.const_pool.specs.declared.write_fault.Part.{Part}
+use Rattle.const_pool.specs.declared.write_fault.WriteFault.{WriteFault}
 use Rattle.class_write.specs.Contents.{HasContent, HasPlainContent}
 use Rattle.class_write.specs.Misfits as misfits
-use Rattle.class_write.specs.Misfits.{place_of}
-use Rattle.class_write.proofs.Once.{IsFair, once_map, once_next}
-use Rattle.class_write.proofs.ContentLemmas.{form_from, place_of_code, method_has_code, stands_parts}
+use Rattle.class_write.specs.Misfits.{attribute_place}
+use Rattle.class_write.specs.Order.{counted}
+use Rattle.class_write.proofs.Faults.{none_parts, unless_none}
+use Rattle.class_write.proofs.Once.{IsFair, not_true, once_map, once_all}
+use Rattle.class_write.proofs.ContentLemmas.{form_from, code_place, method_has_code, stands_parts}
 
 -- which attributes of a place count, and which are the same
 abbrev pub counts : Pool → Place → Attribute → Bool
@@ -31,42 +35,60 @@ fair pool place = record {
 }
 
 pub place_parts : (pool : Pool) (holder : Holder) (d : List ℕ) (bare : Bool) (list : List Attribute) (number : ℕ) (a : Attribute) → misfits.has_place pool holder d bare list number a ≡ true
-    → (misfits.may_stand pool holder d bare (out-Attribute a) ≡ true) × (misfits.is_second pool (place_of holder d) list number a ≡ false)
+    → (misfits.may_stand pool holder d bare (out-Attribute a) ≡ true) × (misfits.is_second pool (attribute_place holder d) list number a ≡ false)
 unfolding misfits.has_place
 place_parts pool holder d bare list number a e =
-    let p = and_parts (misfits.may_stand pool holder d bare (out-Attribute a)) (not (misfits.is_second pool (place_of holder d) list number a)) e in
-    (p.0, no_more (misfits.is_second pool (place_of holder d) list number a) p.1)
-  where
-    no_more : (b : Bool) → not b ≡ true → b ≡ false
-    no_more true e = absurd (let h : false ≡ true = e in cc)
-    no_more false e = refl
+    let p = and_parts (misfits.may_stand pool holder d bare (out-Attribute a)) (not (misfits.is_second pool (attribute_place holder d) list number a)) e in
+    (p.0, not_true (misfits.is_second pool (attribute_place holder d) list number a) p.1)
 
 pub place_from : (pool : Pool) (holder : Holder) (d : List ℕ) (bare : Bool) (list : List Attribute) (number : ℕ) (a : Attribute)
-    → misfits.may_stand pool holder d bare (out-Attribute a) ≡ true → misfits.is_second pool (place_of holder d) list number a ≡ false → misfits.has_place pool holder d bare list number a ≡ true
+    → misfits.may_stand pool holder d bare (out-Attribute a) ≡ true → misfits.is_second pool (attribute_place holder d) list number a ≡ false → misfits.has_place pool holder d bare list number a ≡ true
 unfolding misfits.has_place
-place_from pool holder d bare list number a may second = and_from (misfits.may_stand pool holder d bare (out-Attribute a)) (not (misfits.is_second pool (place_of holder d) list number a)) may (ap not second)
+place_from pool holder d bare list number a may second = and_from (misfits.may_stand pool holder d bare (out-Attribute a)) (not (misfits.is_second pool (attribute_place holder d) list number a)) may (ap not second)
 
--- the names of one more attribute
-pub names_next : (pool : Pool) (holder : Holder) (d : List ℕ) (bare : Bool) (list : List Attribute) (i : ℕ) (a : Attribute) → i < length list → a ≡ get_or list i a
-    → once_each (counts pool (place_of holder d)) (same pool) (take i list) ≡ true → misfits.has_place pool holder d bare list i a ≡ true
-    → once_each (counts pool (place_of holder d)) (same pool) (take (i + 1) list) ≡ true
-names_next pool holder d bare list i a within is once place =
-    once_next (counts pool (place_of holder d)) (same pool) list i a (fair pool (place_of holder d)) within is once (place_parts pool holder d bare list i a place).1
+-- no two attributes without a fault have one known name
+names_once : (pool : Pool) (holder : Holder) (d : List ℕ) (bare : Bool) (misfit : ℕ → Attribute → Option WriteFault) (part : Part) (list : List Attribute)
+    → ((n : ℕ) (a : Attribute) → misfit n a ≡ None → misfits.has_place pool holder d bare list n a ≡ true) → counted part misfit list ≡ None
+    → once_each (is_known (attribute_place holder d)) bytes_eq (map (attribute_name pool) list) ≡ true
+names_once pool holder d bare misfit part list each none =
+    once_map (attribute_name pool) (is_known (attribute_place holder d)) bytes_eq list
+    ∙ once_all (counts pool (attribute_place holder d)) (same pool) misfit part list (fair pool (attribute_place holder d)) (λ n a fits. (place_parts pool holder d bare list n a (each n a fits)).1) none
 
-pub names_once : (pool : Pool) (place : Place) (list : List Attribute) (i : ℕ) → length list ≤ i → once_each (counts pool place) (same pool) (take i list) ≡ true
-    → once_each (is_known place) bytes_eq (map (attribute_name pool) list) ≡ true
-names_once pool place list i past once = once_map (attribute_name pool) (is_known place) bytes_eq list ∙ rw (take_all i list past) at once
+code_attribute_placed : (pool : Pool) (holder : Holder) (list : List Attribute) (n : ℕ) (a : Attribute) → misfits.code_attribute_of pool holder list n a ≡ None
+    → misfits.has_place pool holder [] false list n a ≡ true
+unfolding misfits.code_attribute_of
+code_attribute_placed pool holder list n a fits = unless_none _ _ (none_parts _ _ fits).0
+
+pub code_names_once : (pool : Pool) (holder : Holder) (list : List Attribute) → misfits.code_attributes pool holder list ≡ None
+    → once_each (is_known (attribute_place holder [])) bytes_eq (map (attribute_name pool) list) ≡ true
+code_names_once pool holder list none =
+    names_once pool holder [] false (misfits.code_attribute_of pool holder list) _ list (code_attribute_placed pool holder list) none
+
+attribute_placed : (pool : Pool) (holder : Holder) (d : List ℕ) (bare : Bool) (list : List Attribute) (n : ℕ) (a : Attribute) → misfits.attribute_of pool holder d bare list n a ≡ None
+    → misfits.has_place pool holder d bare list n a ≡ true
+unfolding misfits.attribute_of
+attribute_placed pool holder d bare list n a fits = unless_none _ _ (none_parts _ _ fits).0
+
+pub attribute_names_once : (pool : Pool) (holder : Holder) (d : List ℕ) (bare : Bool) (list : List Attribute) → misfits.attributes pool holder d bare list ≡ None
+    → once_each (is_known (attribute_place holder d)) bytes_eq (map (attribute_name pool) list) ≡ true
+attribute_names_once pool holder d bare list none =
+    names_once pool holder d bare (misfits.attribute_of pool holder d bare list) _ list (attribute_placed pool holder d bare list) none
+
+-- what holds of each under a condition that is met
+pub all_under : {A : Type 0} (P : Type 0) (Is : A → Type 0) (items : List A) → P → AllByRecursion (λ x. P → Is x) items → AllByRecursion Is items
+all_under P Is [] p all = tt
+all_under P Is (x ∷ items) p all = (all.0 p, all_under P Is items p all.1)
 
 pub code_attribute_shaped : (pool : Pool) (holder : Holder) (list : List Attribute) (number : ℕ) (a : Attribute) → misfits.is_code holder ≡ true → misfits.has_place pool holder [] false list number a ≡ true
     → HasPlainContent pool [] (out-Attribute a) → length (spelling.content_by spelling.no_attribute (out-Attribute a)) < 2 ^ 32 → IsCodeAttribute pool a
 code_attribute_shaped pool holder list number a code place content short = record {
   form = let f = form_from (λ inner. ⊥) pool holder [] false (out-Attribute a) (place_parts pool holder [] false list number a place).0 content in
-      subst (λ (p : Place). HasForm (λ inner. ⊥) pool p (out-Attribute a)) (place_of_code holder [] code) f;
+      subst (λ (p : Place). HasForm (λ inner. ⊥) pool p (out-Attribute a)) (code_place holder [] code) f;
   short = short;
 }
 
 pub attribute_shaped : (pool : Pool) (holder : Holder) (d : List ℕ) (bare : Bool) (list : List Attribute) (number : ℕ) (a : Attribute) → misfits.has_place pool holder d bare list number a ≡ true
-    → HasContent (IsCodeAttributes pool) pool d (out-Attribute a) → length (spelling.content_by spelling.code_attribute (out-Attribute a)) < 2 ^ 32 → IsAttribute pool (place_of holder d) a
+    → HasContent (IsCodeAttributes pool) pool d (out-Attribute a) → length (spelling.content_by spelling.code_attribute (out-Attribute a)) < 2 ^ 32 → IsAttribute pool (attribute_place holder d) a
 attribute_shaped pool holder d bare list number a place content short = record {
   form = form_from (IsCodeAttributes pool) pool holder d bare (out-Attribute a) (place_parts pool holder d bare list number a place).0 content;
   short = short;

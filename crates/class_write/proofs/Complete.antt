@@ -31,7 +31,7 @@ use Rattle.const_pool.specs.declared.write_fault.AttributeId.{AttributeId}
 use Rattle.const_pool.specs.declared.write_fault.WriteFault.{WriteFault}
 use Rattle.class_write.specs.Contents.{HasContent, HasPlainContent}
 use Rattle.class_write.specs.Misfits as misfits
-use Rattle.class_write.specs.Misfits.{place_of, has_form, has_name, misfit}
+use Rattle.class_write.specs.Misfits.{attribute_place, has_form, has_name, misfit}
 use Rattle.class_write.specs.Order.{first_from, counted, is_again}
 use Rattle.class_write.proofs.Faults.{none_both, unless_true}
 use Rattle.class_write.proofs.FrameLemmas.{type_fits}
@@ -175,8 +175,8 @@ record MayStand (pool : Pool) (place : Place) (bare : Bool) (a : Attribute) : Ty
   shaped : IsAttribute pool place a
   allowed : not (bare && is_code_layer (out-Attribute a)) ≡ true
 
-attribute_none : (pool : Pool) (holder : Holder) (d : List ℕ) (bare : Bool) (list : List Attribute) (n : ℕ) (a : Attribute) → MayStand pool (place_of holder d) bare a
-    → misfits.is_second pool (place_of holder d) list n a ≡ false → misfits.attribute_of pool holder d bare list n a ≡ None
+attribute_none : (pool : Pool) (holder : Holder) (d : List ℕ) (bare : Bool) (list : List Attribute) (n : ℕ) (a : Attribute) → MayStand pool (attribute_place holder d) bare a
+    → misfits.is_second pool (attribute_place holder d) list n a ≡ false → misfits.attribute_of pool holder d bare list n a ≡ None
 unfolding misfits.attribute_of
 attribute_none pool holder d bare list n a is second =
     let parts = form_parts (IsCodeAttributes pool) pool holder d (out-Attribute a) is.shaped.form in
@@ -195,11 +195,11 @@ allowed_all pool place bare (a ∷ list) none all =
     apart true true y e = absurd (let h : true ≡ false = e in cc)
     apart true false y e = (refl, e)
 
-attributes_none : (pool : Pool) (holder : Holder) (d : List ℕ) (bare : Bool) (list : List Attribute) → (bare && has_code list) ≡ false → IsAttributes pool (place_of holder d) list
+attributes_none : (pool : Pool) (holder : Holder) (d : List ℕ) (bare : Bool) (list : List Attribute) → (bare && has_code list) ≡ false → IsAttributes pool (attribute_place holder d) list
     → misfits.attributes pool holder d bare list ≡ None
 attributes_none pool holder d bare list none is =
-    once_none (MayStand pool (place_of holder d) bare) (attributes.counts pool (place_of holder d)) (attributes.same pool) _ _ list (attributes.fair pool (place_of holder d))
-    (λ n a fits second. attribute_none pool holder d bare list n a fits second) (is.each.0, allowed_all pool (place_of holder d) bare list none is.each.1) (once_there pool (place_of holder d) list is.once)
+    once_none (MayStand pool (attribute_place holder d) bare) (attributes.counts pool (attribute_place holder d)) (attributes.same pool) _ _ list (attributes.fair pool (attribute_place holder d))
+    (λ n a fits second. attribute_none pool holder d bare list n a fits second) (is.each.0, allowed_all pool (attribute_place holder d) bare list none is.each.1) (once_there pool (attribute_place holder d) list is.once)
 
 -- ---- members
 

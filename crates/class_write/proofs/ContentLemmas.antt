@@ -13,14 +13,14 @@ use Rattle.const_pool.specs.declared.write_fault.Holder.TheVariants as holders
 use Rattle.const_pool.specs.declared.write_fault.AttributeId.{AttributeId}
 use Rattle.class_write.specs.Contents.{HasContent, HasPlainContent}
 use Rattle.class_write.specs.Misfits as misfits
-use Rattle.class_write.specs.Misfits.{place_of, has_form, has_name}
+use Rattle.class_write.specs.Misfits.{attribute_place, has_form, has_name}
 
 never : {A : Type 0} → false ≡ true → A
 never e = absurd (let h : false ≡ true = e in cc)
 
 -- a content under its own name is a form
 form_of : (Inner : List Attribute → Type 0) (pool : Pool) (holder : Holder) (d : List ℕ) (layer : AttributeLayer)
-    → has_form holder layer ≡ true → has_name pool (place_of holder d) layer ≡ true → HasContent Inner pool d layer → HasForm Inner pool (place_of holder d) layer
+    → has_form holder layer ≡ true → has_name pool (attribute_place holder d) layer ≡ true → HasContent Inner pool d layer → HasForm Inner pool (attribute_place holder d) layer
 form_of Inner pool holders.Class d (Attribute-F.Code name max_stack max_locals code table inner) f n c = never f
 form_of Inner pool (holders.Field k) d (Attribute-F.Code name max_stack max_locals code table inner) f n c = never f
 form_of Inner pool (holders.Method k) d (Attribute-F.Code name max_stack max_locals code table inner) f n c = (n, c)
@@ -47,20 +47,20 @@ form_of Inner pool (holders.Method k) d (Attribute-F.Other name bytes) f n c = r
 form_of Inner pool (holders.Code k) d (Attribute-F.Other name bytes) f n c = record { name = n; bytes = c }
 
 pub stands_parts : (pool : Pool) (holder : Holder) (d : List ℕ) (bare : Bool) (layer : AttributeLayer) → misfits.may_stand pool holder d bare layer ≡ true
-    → (has_form holder layer ≡ true) × (has_name pool (place_of holder d) layer ≡ true) × (not (bare && is_code_layer layer) ≡ true)
+    → (has_form holder layer ≡ true) × (has_name pool (attribute_place holder d) layer ≡ true) × (not (bare && is_code_layer layer) ≡ true)
 unfolding misfits.may_stand
 stands_parts pool holder d bare layer e =
-    let outer = and_parts (has_form holder layer && has_name pool (place_of holder d) layer) (not (bare && is_code_layer layer)) e in
-    let inner = and_parts (has_form holder layer) (has_name pool (place_of holder d) layer) outer.0 in
+    let outer = and_parts (has_form holder layer && has_name pool (attribute_place holder d) layer) (not (bare && is_code_layer layer)) e in
+    let inner = and_parts (has_form holder layer) (has_name pool (attribute_place holder d) layer) outer.0 in
     (inner.0, inner.1, outer.1)
 
-pub stands_from : (pool : Pool) (holder : Holder) (d : List ℕ) (bare : Bool) (layer : AttributeLayer) → has_form holder layer ≡ true → has_name pool (place_of holder d) layer ≡ true
+pub stands_from : (pool : Pool) (holder : Holder) (d : List ℕ) (bare : Bool) (layer : AttributeLayer) → has_form holder layer ≡ true → has_name pool (attribute_place holder d) layer ≡ true
     → not (bare && is_code_layer layer) ≡ true → misfits.may_stand pool holder d bare layer ≡ true
 unfolding misfits.may_stand
-stands_from pool holder d bare layer f n b = and_from (has_form holder layer && has_name pool (place_of holder d) layer) (not (bare && is_code_layer layer)) (and_from (has_form holder layer) (has_name pool (place_of holder d) layer) f n) b
+stands_from pool holder d bare layer f n b = and_from (has_form holder layer && has_name pool (attribute_place holder d) layer) (not (bare && is_code_layer layer)) (and_from (has_form holder layer) (has_name pool (attribute_place holder d) layer) f n) b
 
 pub form_from : (Inner : List Attribute → Type 0) (pool : Pool) (holder : Holder) (d : List ℕ) (bare : Bool) (layer : AttributeLayer)
-    → misfits.may_stand pool holder d bare layer ≡ true → HasContent Inner pool d layer → HasForm Inner pool (place_of holder d) layer
+    → misfits.may_stand pool holder d bare layer ≡ true → HasContent Inner pool d layer → HasForm Inner pool (attribute_place holder d) layer
 form_from Inner pool holder d bare layer e c = let p = stands_parts pool holder d bare layer e in form_of Inner pool holder d layer p.0 p.1 c
 
 pub method_has_code : (holder : Holder) (layer : AttributeLayer) → has_form holder layer ≡ true → is_code_layer layer ≡ true → misfits.is_method holder ≡ true
@@ -77,11 +77,11 @@ code_of_method (holders.Field k) is = never is
 code_of_method (holders.Method k) is = is
 code_of_method (holders.Code k) is = never is
 
-pub place_of_code : (holder : Holder) (d : List ℕ) → misfits.is_code holder ≡ true → place_of holder d ≡ in_code
-place_of_code holders.Class d is = never is
-place_of_code (holders.Field k) d is = never is
-place_of_code (holders.Method k) d is = never is
-place_of_code (holders.Code k) d is = refl
+pub code_place : (holder : Holder) (d : List ℕ) → misfits.is_code holder ≡ true → attribute_place holder d ≡ in_code
+code_place holders.Class d is = never is
+code_place (holders.Field k) d is = never is
+code_place (holders.Method k) d is = never is
+code_place (holders.Code k) d is = refl
 
 -- a content without code is the same whatever may stand in code
 pub plain_content : (Inner : List Attribute → Type 0) (pool : Pool) (d : List ℕ) (layer : AttributeLayer) → HasPlainContent pool d layer → HasContent Inner pool d layer
@@ -111,8 +111,8 @@ plain_misfit pool d id (Attribute-F.Annotations name list) e = refl
 plain_misfit pool d id (Attribute-F.Other name bytes) e = refl
 
 -- a form is a content under its own name, where it stands
-pub form_parts : (Inner : List Attribute → Type 0) (pool : Pool) (holder : Holder) (d : List ℕ) (layer : AttributeLayer) → HasForm Inner pool (place_of holder d) layer
-    → (has_form holder layer ≡ true) × (has_name pool (place_of holder d) layer ≡ true) × HasContent Inner pool d layer
+pub form_parts : (Inner : List Attribute → Type 0) (pool : Pool) (holder : Holder) (d : List ℕ) (layer : AttributeLayer) → HasForm Inner pool (attribute_place holder d) layer
+    → (has_form holder layer ≡ true) × (has_name pool (attribute_place holder d) layer ≡ true) × HasContent Inner pool d layer
 form_parts Inner pool holders.Class d (Attribute-F.Code name max_stack max_locals code table inner) is = absurd is
 form_parts Inner pool (holders.Field k) d (Attribute-F.Code name max_stack max_locals code table inner) is = absurd is
 form_parts Inner pool (holders.Method k) d (Attribute-F.Code name max_stack max_locals code table inner) is = (refl, is.0, is.1)

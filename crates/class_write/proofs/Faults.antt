@@ -62,6 +62,9 @@ refuses_named Memory found names = tt
 refuses_named (TooLarge part) found names = names
 refuses_named (BadShape part) found names = names
 
+pub refuses_as : (e : WriteFault) (a b : Option WriteFault) → a ≡ b → Refuses e a → Refuses e b
+refuses_as e a b same refuses = subst (Refuses e) same refuses
+
 -- a fault that is passed on
 pub passed_on : {T : Type 0} (r : Result T WriteFault) (x : WriteFault) (found : Option WriteFault) → IsErrAnd r (λ e. e ≡ x) → Refuses x found
     → IfErr r (λ e. Refuses e found)

@@ -1,15 +1,23 @@
 -- Items of which none is the same as an earlier one.
-use Rattle.std.proofs.Common.{◌≡◌, ℕ, ◌+◌, ◌<◌, ◌⊎◌, inl, inr, Bool, true, false, not, ◌&&◌, ◌||◌, List, [], ◌∷◌, ◌++◌, length, take, get_or, map, refl, sym, ap, ◌∙◌}
+use Rattle.std.proofs.Common.{◌≡◌, ℕ, ◌+◌, ◌^◌, ◌⊎◌, inl, inr, Bool, true, false, not, ◌&&◌, ◌||◌, ltb, List, [], ◌∷◌, ◌++◌, length, take, map, Option, None, refl, sym, ap, ◌∙◌, append_assoc, length-append}
 use Rattle.std.specs.List.{list_any}
 use Rattle.std.proofs.lemmas.Bool.{cases_Bool, and_parts, and_from}
+use Rattle.std.proofs.lemmas.List.{append-nil, take_at}
 use Rattle.class_model.specs.Attributes.{once_each}
-use Rattle.class_write.specs.Order.{is_again}
-use Rattle.class_write.proofs.Lists.{front_more}
+use Rattle.const_pool.specs.declared.write_fault.Part.{Part}
+use Rattle.const_pool.specs.declared.write_fault.WriteFault.{WriteFault}
+use Rattle.const_pool.specs.declared.write_fault.WriteFault.TheVariants.{TooLarge}
+use Rattle.class_write.specs.Order.{unless, first_from, counted, is_again}
+use Rattle.class_write.proofs.Faults.{none_parts}
 
 -- Where two items are the same, they are it in both orders, and both count.
 pub record IsFair {A : Type 0} (counts : A → Bool) (same : A → A → Bool) : Type 0 where
   pub back : (x y : A) → same x y ≡ same y x
   pub both : (x y : A) → same x y ≡ true → counts x ≡ counts y
+
+pub not_true : (b : Bool) → not b ≡ true → b ≡ false
+not_true true e = absurd (let h : false ≡ true = e in cc)
+not_true false e = refl
 
 any_more : {A : Type 0} (test : A → Bool) (xs : List A) (x : A) → list_any test xs ≡ false → test x ≡ false → list_any test (xs ++ x ∷ []) ≡ false
 any_more test [] x none is = rw is refl
@@ -52,10 +60,23 @@ once_more {A} counts same (y ∷ xs) x fair once none =
       | inr n ↦ (let later : list_any (same y) (xs ++ x ∷ []) ≡ false = any_more (same y) xs x n (apart t (cases_Bool (counts x))) in rw (t, later) refl)
     ]
 
--- one more item of a list
-pub once_next : {A : Type 0} (counts : A → Bool) (same : A → A → Bool) (items : List A) (i : ℕ) (x : A) → IsFair counts same → i < length items → x ≡ get_or items i x
-    → once_each counts same (take i items) ≡ true → is_again counts same items i x ≡ false → once_each counts same (take (i + 1) items) ≡ true
-once_next counts same items i x fair within is once none = rw (front_more items i x within is) (once_more counts same (take i items) x fair once none)
+once_behind : {A : Type 0} (counts : A → Bool) (same : A → A → Bool) (misfit : ℕ → A → Option WriteFault) (items : List A) → IsFair counts same
+    → ((n : ℕ) (x : A) → misfit n x ≡ None → is_again counts same items n x ≡ false)
+    → (front rest : List A) → items ≡ front ++ rest → once_each counts same front ≡ true → first_from misfit (length front) rest ≡ None → once_each counts same items ≡ true
+unfolding first_from
+once_behind counts same misfit items fair each front [] e once none = rw (e, append-nil front) once
+once_behind {A} counts same misfit items fair each front (x ∷ rest) e once none =
+    let parts = none_parts (misfit (length front) x) (first_from misfit (length front + 1) rest) none in
+    let here : (counts x && list_any (same x) front) ≡ false = rw (e, take_at front (x ∷ rest) (length front) refl) at (each (length front) x parts.0) in
+    let more : length (front ++ x ∷ []) ≡ length front + 1 = length-append front (x ∷ []) in
+    once_behind counts same misfit items fair each (front ++ x ∷ []) rest (e ∙ sym (append_assoc front (x ∷ []) rest)) (once_more counts same front x fair once here) (rw more parts.1)
+
+-- none of the items is the same as an earlier one, where each that is has a fault
+pub once_all : {A : Type 0} (counts : A → Bool) (same : A → A → Bool) (misfit : ℕ → A → Option WriteFault) (part : Part) (items : List A) → IsFair counts same
+    → ((n : ℕ) (x : A) → misfit n x ≡ None → is_again counts same items n x ≡ false) → counted part misfit items ≡ None → once_each counts same items ≡ true
+unfolding counted
+once_all counts same misfit part items fair each none =
+    once_behind counts same misfit items fair each [] items refl refl (none_parts (unless (ltb (length items) (2 ^ 16)) (TooLarge part)) (first_from misfit 0 items) none).1
 
 any_there : {A : Type 0} (test : A → Bool) (xs : List A) (x : A) (rest : List A) → test x ≡ true → list_any test (xs ++ x ∷ rest) ≡ true
 any_there test [] x rest is = rw is refl

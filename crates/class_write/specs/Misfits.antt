@@ -35,7 +35,7 @@ use Rattle.const_pool.specs.declared.write_fault.AttributePart.TheVariants as it
 use Rattle.const_pool.specs.declared.write_fault.MemberPart.TheVariants as member_parts
 use Rattle.const_pool.specs.declared.write_fault.WriteFault.{WriteFault}
 use Rattle.const_pool.specs.declared.write_fault.WriteFault.TheVariants.{TooLarge, BadShape}
-use Rattle.class_write.specs.Order.{unless, ◌<|>◌, counted, is_again}
+use Rattle.class_write.specs.Order.{unless, ◌<|>◌, counted, told_from, is_again}
 
 -- JVMS 4.7.4
 unfoldable pub is_frame_type : Pool → FrameType → Bool
@@ -120,11 +120,11 @@ abbrev pub annotations : Pool → AttributeId → List Note → Option WriteFaul
 annotations pool id = counted (at id items.Annotations) (λ n note. annotation pool (at id (items.Annotation n)) note)
 
 -- where the attributes of a holder stand; those of a field stand beside its descriptor
-abbrev pub place_of : Holder → List ℕ → Place
-place_of holders.Class descriptor = in_class
-place_of (holders.Field number) descriptor = in_field descriptor
-place_of (holders.Method number) descriptor = in_method
-place_of (holders.Code method) descriptor = in_code
+abbrev pub attribute_place : Holder → List ℕ → Place
+attribute_place holders.Class descriptor = in_class
+attribute_place (holders.Field number) descriptor = in_field descriptor
+attribute_place (holders.Method number) descriptor = in_method
+attribute_place (holders.Code method) descriptor = in_code
 
 abbrev pub code_of : Holder → Holder
 code_of (holders.Method number) = holders.Code number
@@ -170,7 +170,7 @@ has_name pool place (Attribute-F.Other name bytes) = is_unknown pool place name
 -- whether an attribute may stand there; a method that is `bare` has no code
 unfoldable pub may_stand : Pool → Holder → List ℕ → Bool → AttributeLayer → Bool
 may_stand pool holder descriptor bare layer =
-    has_form holder layer && has_name pool (place_of holder descriptor) layer && not (bare && is_code_layer layer)
+    has_form holder layer && has_name pool (attribute_place holder descriptor) layer && not (bare && is_code_layer layer)
 
 -- JVMS 4.7.2
 abbrev pub value : Pool → List ℕ → AttributeId → ℕ → Option WriteFault
@@ -193,7 +193,7 @@ is_second pool place list number a =
 -- whether the number of an attribute is a place for it among all of a holder
 unfoldable pub has_place : Pool → Holder → List ℕ → Bool → List Attribute → ℕ → Attribute → Bool
 has_place pool holder descriptor bare list number a =
-    may_stand pool holder descriptor bare (out-Attribute a) && not (is_second pool (place_of holder descriptor) list number a)
+    may_stand pool holder descriptor bare (out-Attribute a) && not (is_second pool (attribute_place holder descriptor) list number a)
 
 -- the length of a content fits its field
 abbrev pub length_of : AttributeId → List ℕ → Option WriteFault
@@ -237,6 +237,9 @@ attributes pool holder descriptor bare list = counted (parts.Attributes holder) 
 -- an earlier member has this one's name and descriptor
 abbrev pub is_double : Pool → List Member → ℕ → Member → Bool
 is_double pool members number m = is_again (λ m. true) (are_same pool) members number m
+
+abbrev pub doubles : Pool → List Member → List Bool
+doubles pool members = told_from (is_double pool members) 0 members
 
 -- JVMS 4.5; no two members have one name and one descriptor
 unfoldable pub field : Pool → Bool → ℕ → Member → Option WriteFault

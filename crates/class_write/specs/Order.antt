@@ -25,6 +25,11 @@ first_from misfit number (x ∷ items) = misfit number x <|> first_from misfit (
 unfoldable pub counted : {A : Type 0} → Part → (ℕ → A → Option WriteFault) → List A → Option WriteFault
 counted part misfit items = unless (nat_lt (length items) (2 ^ 16)) (TooLarge part) <|> first_from misfit 0 items
 
+-- what is told of each of the items that are numbered from a number on
+unfoldable pub told_from : {A B : Type 0} → (ℕ → A → B) → ℕ → List A → List B
+told_from tell number [] = []
+told_from tell number (x ∷ items) = tell number x ∷ told_from tell (number + 1) items
+
 -- an item of a number counts, and an earlier one is the same
 abbrev pub is_again : {A : Type 0} → (A → Bool) → (A → A → Bool) → List A → ℕ → A → Bool
 is_again counts same items number x = counts x && list_any (same x) (take number items)

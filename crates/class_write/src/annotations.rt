@@ -11,7 +11,7 @@ ghost use Rattle.class_write.specs.Order.{unless, Refuses};
 ghost use Rattle.class_write.specs.Misfits as misfits;
 ghost use Rattle.const_pool.specs.declared.write_fault.WriteFault.TheVariants as faults;
 
-use crate::order::put_count;
+use crate::item_lists::{WriteItem, put_count, write_counted};
 use class_model::{Element, GREATEST_DEPTH, Note, Pair, Pool};
 use const_pool::{AttributeId, AttributePart, Part, WriteFault, put_u2};
 
@@ -219,6 +219,33 @@ fn put_note(
     Ok(())
 }
 
+/// Writes annotations of this attribute.
+#[derive(Drop)]
+struct AnnotationWriter<'p> {
+    pool: &'p Pool,
+    id: AttributeId,
+}
+
+impl WriteItem for AnnotationWriter<'_> {
+    ghost use Rattle.class_model.specs.Annotations.{IsAnnotation};
+    ghost use Rattle.class_model.specs.Spelling as spelling;
+    ghost use Rattle.const_pool.specs.declared.write_fault.AttributePart.TheVariants as items;
+    ghost use Rattle.class_write.specs.Misfits as misfits;
+
+    type Item = Note;
+
+    ghost text = { λ s. spelling.note_by (spelling.element spelling.greatest_depth) };
+
+    ghost is_shaped = { λ s. IsAnnotation s.pool.now };
+
+    ghost misfit = { λ s number. misfits.annotation s.pool.now (misfits.at s.id (items.Annotation number)) };
+
+    fn write(&self, out: &mut Vec<u8>, number: u32, item: &Note) -> Result<(), WriteFault> {
+        let part = Part::Attribute(self.id, AttributePart::Annotation(number));
+        put_note(out, self.pool, part, GREATEST_DEPTH, item)
+    }
+}
+
 /// Writes the annotations that are this attribute.
 pub(crate) fn put_annotations(
     out: &mut Vec<u8>,
@@ -231,14 +258,6 @@ pub(crate) fn put_annotations(
     ensures none { OnOk result (misfits.annotations pool.now id notes.now ≡ None) }
     ensures fault { IfErr result (λ e. Refuses e (misfits.annotations pool.now id notes.now)) }
 {
-    put_count(
-        out,
-        Part::Attribute(id, AttributePart::Annotations),
-        notes.len(),
-    )?;
-    for i in 0..notes.len() {
-        let part = Part::Attribute(id, AttributePart::Annotation(i as u32));
-        put_note(out, pool, part, GREATEST_DEPTH, &notes[i])?;
-    }
-    Ok(())
+    let part = Part::Attribute(id, AttributePart::Annotations);
+    write_counted(out, &AnnotationWriter { pool, id }, part, notes)
 }

@@ -9,14 +9,17 @@ ghost use Rattle.class_model.specs.Shape.{is_code_layer};
 ghost use Rattle.class_model.specs.Spelling as spelling;
 ghost use Rattle.class_write.specs.Contents.{HasContent};
 ghost use Rattle.class_write.specs.Misfits as misfits;
-ghost use Rattle.class_write.specs.Misfits.{place_of};
+ghost use Rattle.class_write.specs.Misfits.{attribute_place};
 ghost use Rattle.class_write.specs.Order.{Refuses};
 
 use crate::contents::{put_code_bytes, put_handlers, put_plain};
-use crate::order::{code_of, put_count};
+use crate::item_lists::{WriteItem, write_counted};
 use class_model::{Attribute, Handler, Pool};
 use const_pool::{AttributeId, AttributePart, Holder, Part, WriteFault, put_u2, put_u4};
 use std::alloc::Global;
+
+/// The greatest length of a content that fits its field.
+const GREATEST_CONTENT: usize = 4_294_967_295;
 
 fn is_either(text: &[u8], one: &[u8], other: &[u8]) -> bool
     ensures { result ≡ (bytes_eq text.now one.now || bytes_eq text.now other.now) }
@@ -27,7 +30,7 @@ fn is_either(text: &[u8], one: &[u8], other: &[u8]) -> bool
 /// Whether a name is known among the attributes of a holder.
 #[tactic(auto, unfolding(class_model::specs::Attributes::is_known))]
 fn is_known(holder: Holder, text: &[u8]) -> bool
-    ensures { (descriptor : List ℕ) → result ≡ is_known (place_of holder descriptor) text.now }
+    ensures { (descriptor : List ℕ) → result ≡ is_known (attribute_place holder descriptor) text.now }
 {
     let annotations = b"RuntimeVisibleAnnotations".as_slice();
     match holder {
@@ -88,7 +91,7 @@ fn has_form(holder: Holder, attribute: &Attribute) -> bool
 }
 
 fn is_unknown(pool: &Pool, holder: Holder, number: u16) -> bool
-    ensures { (descriptor : List ℕ) → result ≡ misfits.is_unknown pool.now (place_of holder descriptor) number }
+    ensures { (descriptor : List ℕ) → result ≡ misfits.is_unknown pool.now (attribute_place holder descriptor) number }
 {
     match pool.text(number) {
         Some(text) => !is_known(holder, text),
@@ -97,7 +100,7 @@ fn is_unknown(pool: &Pool, holder: Holder, number: u16) -> bool
 }
 
 fn has_name(pool: &Pool, holder: Holder, attribute: &Attribute) -> bool
-    ensures { (descriptor : List ℕ) → result ≡ misfits.has_name pool.now (place_of holder descriptor) (out-Attribute attribute.now) }
+    ensures { (descriptor : List ℕ) → result ≡ misfits.has_name pool.now (attribute_place holder descriptor) (out-Attribute attribute.now) }
 {
     match attribute {
         Attribute::Code { name, .. } => pool.is_named(b"Code", *name),
@@ -134,10 +137,13 @@ fn attribute_name<'a>(pool: &'a Pool, attribute: &Attribute) -> &'a [u8]
     pool.text_or_empty(attribute.name())
 }
 
-fn stands_among(pool: &Pool, list: &[Attribute], name: &[u8]) -> bool
-    ensures { result ≡ list_any (λ a. bytes_eq name.now (attribute_name pool.now a)) list.now }
+/// Whether one of so many attributes has a name.
+fn stands_among(pool: &Pool, list: &[Attribute], many: usize, name: &[u8]) -> bool
+    ensures { result ≡ list_any (λ a. bytes_eq name.now (attribute_name pool.now a)) (take many list.now) }
 {
-    list.iter().any(|a| name == attribute_name(pool, a))
+    list.iter()
+        .take(many)
+        .any(|a| name == attribute_name(pool, a))
 }
 
 /// Whether the known name of an attribute stands before it in a list.
@@ -148,15 +154,13 @@ fn is_second(
     number: usize,
     attribute: &Attribute,
 ) -> bool
-    requires { number ≤ length list.now }
-    ensures { (descriptor : List ℕ) → misfits.is_second pool.now (place_of holder descriptor) list.now number attribute.now ≡ result }
+    ensures { (descriptor : List ℕ) → misfits.is_second pool.now (attribute_place holder descriptor) list.now number attribute.now ≡ result }
 {
     let name = attribute_name(pool, attribute);
     if !is_known(holder, name) {
         return false;
     }
-    let (earlier, _) = list.split_at(number);
-    stands_among(pool, earlier, name)
+    stands_among(pool, list, number, name)
 }
 
 /// Writes a name, the length of a content, and the content.
@@ -172,7 +176,7 @@ fn put_framed(
     ensures none { OnOk result (misfits.length_of id content.now ≡ None) }
     ensures fault { IfErr result (λ e. Refuses e (misfits.length_of id content.now)) }
 {
-    if content.len() > 4_294_967_295 {
+    if content.len() > GREATEST_CONTENT {
         return Err(WriteFault::TooLarge(Part::Attribute(id, AttributePart::Length)));
     }
     put_u2(out, name)?;
@@ -191,7 +195,6 @@ fn has_place(
     number: usize,
     attribute: &Attribute,
 ) -> bool
-    requires { number ≤ length list.now }
     ensures { (descriptor : List ℕ) → misfits.has_place pool.now holder descriptor bare list.now number attribute.now ≡ result }
 {
     if !may_stand(pool, holder, bare, attribute) {
@@ -200,33 +203,50 @@ fn has_place(
     !is_second(pool, holder, list, number, attribute)
 }
 
-/// Writes an attribute of code, which has this number in a list.
-#[tactic(auto, using(crate::proofs::Faults::faults), unfolding(crate::specs::Misfits::code_attribute_of, class_model::specs::Spelling::code_attribute))]
-fn put_code_attribute(
-    out: &mut Vec<u8>,
+/// Writes the attributes in a list, which are those of the code of a method.
+#[derive(Drop)]
+struct CodeAttributeWriter<'p> {
     alloc: Global,
-    pool: &Pool,
+    pool: &'p Pool,
     holder: Holder,
-    list: &[Attribute],
-    number: u32,
-    attribute: &Attribute,
-) -> Result<(), WriteFault>
-    requires within { number ≤ length list.now }
-    requires holder { misfits.is_code holder ≡ true }
-    ensures ok { OnOk result (out.new.items ≡ out.old.items ++ spelling.code_attribute attribute.now) }
-    ensures shaped { OnOk result (IsCodeAttribute pool.now attribute.now) }
-    ensures place { OnOk result (misfits.has_place pool.now holder [] false list.now number attribute.now ≡ true) }
-    ensures none { OnOk result (misfits.code_attribute_of pool.now holder list.now number attribute.now ≡ None) }
-    ensures fault { IfErr result (λ e. Refuses e (misfits.code_attribute_of pool.now holder list.now number attribute.now)) }
-{
-    let id = AttributeId { holder, number };
-    if !has_place(pool, holder, false, list, number as usize, attribute) {
-        return Err(WriteFault::BadShape(Part::Attribute(id, AttributePart::Name)));
+    list: &'p [Attribute],
+}
+
+impl WriteItem for CodeAttributeWriter<'_> {
+    ghost use Rattle.std.specs.Prelude.{◌≡◌, true};
+    ghost use Rattle.class_model.specs.Attributes.{IsCodeAttribute};
+    ghost use Rattle.class_model.specs.Spelling.{code_attribute};
+    ghost use Rattle.class_write.specs.Misfits as misfits;
+
+    type Item = Attribute;
+
+    ghost text = { λ s. code_attribute };
+
+    ghost is_shaped = { λ s a. misfits.is_code s.holder ≡ true → IsCodeAttribute s.pool.now a };
+
+    ghost misfit = { λ s. misfits.code_attribute_of s.pool.now s.holder s.list.now };
+
+    #[tactic(auto, using(crate::proofs::Faults::faults), unfolding(crate::specs::Misfits::code_attribute_of, class_model::specs::Spelling::code_attribute))]
+    fn write(&self, out: &mut Vec<u8>, number: u32, item: &Attribute) -> Result<(), WriteFault> {
+        let id = AttributeId {
+            holder: self.holder,
+            number,
+        };
+        if !has_place(
+            self.pool,
+            self.holder,
+            false,
+            self.list,
+            number as usize,
+            item,
+        ) {
+            return Err(WriteFault::BadShape(Part::Attribute(id, AttributePart::Name)));
+        }
+        let mut content = Vec::new(self.alloc);
+        put_plain(&mut content, self.pool, &[], id, item)?;
+        put_framed(out, id, item.name(), content.as_slice())?;
+        Ok(())
     }
-    let mut content = Vec::new(alloc);
-    put_plain(&mut content, pool, &[], id, attribute)?;
-    put_framed(out, id, attribute.name(), content.as_slice())?;
-    Ok(())
 }
 
 /// Writes the attributes of the code of a method.
@@ -243,11 +263,24 @@ pub(crate) fn put_code_attributes(
     ensures none { OnOk result (misfits.code_attributes pool.now holder list.now ≡ None) }
     ensures fault { IfErr result (λ e. Refuses e (misfits.code_attributes pool.now holder list.now)) }
 {
-    put_count(out, Part::Attributes(holder), list.len())?;
-    for i in 0..list.len() {
-        put_code_attribute(out, alloc, pool, holder, list, i as u32, &list[i])?;
-    }
+    let writer = CodeAttributeWriter {
+        alloc,
+        pool,
+        holder,
+        list,
+    };
+    write_counted(out, &writer, Part::Attributes(holder), list)?;
     Ok(())
+}
+
+/// The code of a method.
+fn code_of(holder: Holder) -> Holder
+    ensures { result ≡ misfits.code_of holder }
+{
+    match holder {
+        Holder::Method(number) => Holder::Code(number),
+        other => other,
+    }
 }
 
 /// The content of a code attribute (JVMS 4.7.3).
@@ -334,42 +367,44 @@ pub(crate) struct Stand<'a> {
     pub(crate) bare: bool,
 }
 
-/// Writes an attribute of a class, a field or a method, which has this number in a list.
-#[tactic(auto, using(crate::proofs::Faults::faults), unfolding(crate::specs::Misfits::attribute_of, class_model::specs::Spelling::attribute))]
-fn put_attribute(
-    out: &mut Vec<u8>,
+/// Writes the attributes in a list, which are those of a class, a field or a method.
+#[derive(Drop)]
+struct AttributeWriter<'p> {
     alloc: Global,
-    pool: &Pool,
-    stand: Stand<'_>,
-    list: &[Attribute],
-    number: u32,
-    attribute: &Attribute,
-) -> Result<(), WriteFault>
-    requires { number ≤ length list.now }
-    ensures ok { OnOk result (out.new.items ≡ out.old.items ++ spelling.attribute attribute.now) }
-    ensures shaped { OnOk result (IsAttribute pool.now (place_of stand.entry.holder stand.entry.descriptor.now) attribute.now) }
-    ensures place { OnOk result (misfits.has_place pool.now stand.entry.holder stand.entry.descriptor.now stand.entry.bare list.now number attribute.now ≡ true) }
-    ensures none { OnOk result (misfits.attribute_of pool.now stand.entry.holder stand.entry.descriptor.now stand.entry.bare list.now number attribute.now ≡ None) }
-    ensures fault { IfErr result (λ e. Refuses e (misfits.attribute_of pool.now stand.entry.holder stand.entry.descriptor.now stand.entry.bare list.now number attribute.now)) }
-{
-    let id = AttributeId {
-        holder: stand.holder,
-        number,
-    };
-    if !has_place(
-        pool,
-        stand.holder,
-        stand.bare,
-        list,
-        number as usize,
-        attribute,
-    ) {
-        return Err(WriteFault::BadShape(Part::Attribute(id, AttributePart::Name)));
+    pool: &'p Pool,
+    stand: Stand<'p>,
+    list: &'p [Attribute],
+}
+
+impl WriteItem for AttributeWriter<'_> {
+    ghost use Rattle.class_model.specs.Attributes.{IsAttribute};
+    ghost use Rattle.class_model.specs.Spelling.{attribute};
+    ghost use Rattle.class_write.specs.Misfits as misfits;
+
+    type Item = Attribute;
+
+    ghost text = { λ s. attribute };
+
+    ghost is_shaped = { λ s. IsAttribute s.pool.now (misfits.attribute_place s.stand.holder s.stand.descriptor.now) };
+
+    ghost misfit = { λ s. misfits.attribute_of s.pool.now s.stand.holder s.stand.descriptor.now s.stand.bare s.list.now };
+
+    #[tactic(auto, using(crate::proofs::Faults::faults), unfolding(crate::specs::Misfits::attribute_of, class_model::specs::Spelling::attribute))]
+    fn write(&self, out: &mut Vec<u8>, number: u32, item: &Attribute) -> Result<(), WriteFault> {
+        let Stand {
+            holder,
+            descriptor,
+            bare,
+        } = self.stand;
+        let id = AttributeId { holder, number };
+        if !has_place(self.pool, holder, bare, self.list, number as usize, item) {
+            return Err(WriteFault::BadShape(Part::Attribute(id, AttributePart::Name)));
+        }
+        let mut content = Vec::new(self.alloc);
+        put_content(&mut content, self.alloc, self.pool, descriptor, id, item)?;
+        put_framed(out, id, item.name(), content.as_slice())?;
+        Ok(())
     }
-    let mut content = Vec::new(alloc);
-    put_content(&mut content, alloc, pool, stand.descriptor, id, attribute)?;
-    put_framed(out, id, attribute.name(), content.as_slice())?;
-    Ok(())
 }
 
 /// Writes the attributes of a class, a field or a method.
@@ -381,13 +416,16 @@ pub(crate) fn put_attributes(
     list: &[Attribute],
 ) -> Result<(), WriteFault>
     ensures ok { OnOk result (out.new.items ≡ out.old.items ++ spelling.counted spelling.attribute list.now) }
-    ensures shaped { OnOk result (IsAttributes pool.now (place_of stand.entry.holder stand.entry.descriptor.now) list.now) }
+    ensures shaped { OnOk result (IsAttributes pool.now (attribute_place stand.entry.holder stand.entry.descriptor.now) list.now) }
     ensures none { OnOk result (misfits.attributes pool.now stand.entry.holder stand.entry.descriptor.now stand.entry.bare list.now ≡ None) }
     ensures fault { IfErr result (λ e. Refuses e (misfits.attributes pool.now stand.entry.holder stand.entry.descriptor.now stand.entry.bare list.now)) }
 {
-    put_count(out, Part::Attributes(stand.holder), list.len())?;
-    for i in 0..list.len() {
-        put_attribute(out, alloc, pool, stand, list, i as u32, &list[i])?;
-    }
+    let writer = AttributeWriter {
+        alloc,
+        pool,
+        stand,
+        list,
+    };
+    write_counted(out, &writer, Part::Attributes(stand.holder), list)?;
     Ok(())
 }

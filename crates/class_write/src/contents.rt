@@ -15,9 +15,12 @@ ghost use Rattle.const_pool.specs.declared.write_fault.WriteFault.TheVariants as
 
 use crate::annotations::put_annotations;
 use crate::frames::put_frames;
-use crate::order::put_count;
+use crate::item_lists::{WriteItem, write_counted};
 use class_model::{Attribute, Bootstrap, Handler, Pool};
 use const_pool::{AttributeId, AttributePart, Part, WriteFault, put_u2, put_u4};
+
+/// The greatest length of code (JVMS 4.7.3).
+const GREATEST_LENGTH: usize = 65535;
 
 /// Whether a handler may catch this class, 0 for all.
 fn is_catch_type(pool: &Pool, class: u16) -> bool
@@ -29,26 +32,39 @@ fn is_catch_type(pool: &Pool, class: u16) -> bool
     pool.is_class(class)
 }
 
-#[tactic(auto, using(crate::proofs::Faults::faults), unfolding(class_model::specs::Spelling::handler))]
-fn put_handler(
-    out: &mut Vec<u8>,
-    pool: &Pool,
-    part: Part,
-    handler: &Handler,
-) -> Result<(), WriteFault>
-    ensures ok { OnOk result (out.new.items ≡ out.old.items ++ spelling.handler handler.now) }
-    ensures shaped { OnOk result (IsHandler pool.now handler.now) }
-    ensures none { OnOk result (misfits.handler pool.now part handler.now ≡ None) }
-    ensures fault { IfErr result (λ e. Refuses e (misfits.handler pool.now part handler.now)) }
-{
-    if !is_catch_type(pool, handler.catch_type) {
-        return Err(WriteFault::BadShape(part));
+/// Writes entries of the exception table of the code that is this attribute.
+#[derive(Drop)]
+struct HandlerWriter<'p> {
+    pool: &'p Pool,
+    id: AttributeId,
+}
+
+impl WriteItem for HandlerWriter<'_> {
+    ghost use Rattle.class_model.specs.Attributes.{IsHandler};
+    ghost use Rattle.class_model.specs.Spelling.{handler};
+    ghost use Rattle.const_pool.specs.declared.write_fault.AttributePart.TheVariants as items;
+    ghost use Rattle.class_write.specs.Misfits as misfits;
+
+    type Item = Handler;
+
+    ghost text = { λ s. handler };
+
+    ghost is_shaped = { λ s. IsHandler s.pool.now };
+
+    ghost misfit = { λ s number. misfits.handler s.pool.now (misfits.at s.id (items.Handler number)) };
+
+    #[tactic(auto, using(crate::proofs::Faults::faults), unfolding(class_model::specs::Spelling::handler))]
+    fn write(&self, out: &mut Vec<u8>, number: u32, item: &Handler) -> Result<(), WriteFault> {
+        if !is_catch_type(self.pool, item.catch_type) {
+            let part = Part::Attribute(self.id, AttributePart::Handler(number));
+            return Err(WriteFault::BadShape(part));
+        }
+        put_u2(out, item.start)?;
+        put_u2(out, item.end)?;
+        put_u2(out, item.handler)?;
+        put_u2(out, item.catch_type)?;
+        Ok(())
     }
-    put_u2(out, handler.start)?;
-    put_u2(out, handler.end)?;
-    put_u2(out, handler.handler)?;
-    put_u2(out, handler.catch_type)?;
-    Ok(())
 }
 
 /// Writes the exception table of the code that is this attribute.
@@ -63,68 +79,75 @@ pub(crate) fn put_handlers(
     ensures none { OnOk result (misfits.handlers pool.now id table.now ≡ None) }
     ensures fault { IfErr result (λ e. Refuses e (misfits.handlers pool.now id table.now)) }
 {
-    put_count(
-        out,
-        Part::Attribute(id, AttributePart::Handlers),
-        table.len(),
-    )?;
-    for i in 0..table.len() {
-        let part = Part::Attribute(id, AttributePart::Handler(i as u32));
-        put_handler(out, pool, part, &table[i])?;
-    }
-    Ok(())
+    let part = Part::Attribute(id, AttributePart::Handlers);
+    write_counted(out, &HandlerWriter { pool, id }, part, table)
 }
 
-#[tactic(auto, using(crate::proofs::Faults::faults))]
-fn put_argument(out: &mut Vec<u8>, pool: &Pool, part: Part, index: u16) -> Result<(), WriteFault>
-    ensures ok { OnOk result (out.new.items ≡ out.old.items ++ spelling.u2 index) }
-    ensures shaped { OnOk result (is_some_that is_loadable (constant_at pool.now index) ≡ true) }
-    ensures none { OnOk result (misfits.argument pool.now part index ≡ None) }
-    ensures fault { IfErr result (λ e. Refuses e (misfits.argument pool.now part index)) }
-{
-    if !pool.is_loadable(index) {
-        return Err(WriteFault::BadShape(part));
-    }
-    put_u2(out, index)?;
-    Ok(())
-}
-
-fn put_arguments(
-    out: &mut Vec<u8>,
-    pool: &Pool,
+/// Writes arguments of the bootstrap method that is this part.
+#[derive(Drop)]
+struct ArgumentWriter<'p> {
+    pool: &'p Pool,
     part: Part,
-    arguments: &[u16],
-) -> Result<(), WriteFault>
-    ensures ok { OnOk result (out.new.items ≡ out.old.items ++ spelling.counted spelling.u2 arguments.now) }
-    ensures shaped { OnOk result (IsCounted (λ index. is_some_that is_loadable (constant_at pool.now index) ≡ true) arguments.now) }
-    ensures none { OnOk result (misfits.arguments pool.now part arguments.now ≡ None) }
-    ensures fault { IfErr result (λ e. Refuses e (misfits.arguments pool.now part arguments.now)) }
-{
-    put_count(out, part, arguments.len())?;
-    for i in 0..arguments.len() {
-        put_argument(out, pool, part, arguments[i])?;
-    }
-    Ok(())
 }
 
-#[tactic(auto, using(crate::proofs::Faults::faults), unfolding(class_model::specs::Spelling::bootstrap, crate::specs::Misfits::bootstrap))]
-fn put_bootstrap(
-    out: &mut Vec<u8>,
-    pool: &Pool,
-    part: Part,
-    bootstrap: &Bootstrap,
-) -> Result<(), WriteFault>
-    ensures ok { OnOk result (out.new.items ≡ out.old.items ++ spelling.bootstrap bootstrap.now) }
-    ensures shaped { OnOk result (IsBootstrap pool.now bootstrap.now) }
-    ensures none { OnOk result (misfits.bootstrap pool.now part bootstrap.now ≡ None) }
-    ensures fault { IfErr result (λ e. Refuses e (misfits.bootstrap pool.now part bootstrap.now)) }
-{
-    if !pool.is_handle(bootstrap.handle) {
-        return Err(WriteFault::BadShape(part));
+impl WriteItem for ArgumentWriter<'_> {
+    ghost use Rattle.std.specs.Prelude.{◌≡◌, true};
+    ghost use Rattle.class_model.specs.Attributes.{is_loadable};
+    ghost use Rattle.class_model.specs.Constants.{constant_at, is_some_that};
+    ghost use Rattle.class_model.specs.Spelling.{u2};
+    ghost use Rattle.class_write.specs.Misfits as misfits;
+
+    type Item = u16;
+
+    ghost text = { λ s. u2 };
+
+    ghost is_shaped = { λ s index. is_some_that is_loadable (constant_at s.pool.now index) ≡ true };
+
+    ghost misfit = { λ s number. misfits.argument s.pool.now s.part };
+
+    #[tactic(auto, using(crate::proofs::Faults::faults))]
+    fn write(&self, out: &mut Vec<u8>, _number: u32, item: &u16) -> Result<(), WriteFault> {
+        if !self.pool.is_loadable(*item) {
+            return Err(WriteFault::BadShape(self.part));
+        }
+        put_u2(out, *item)?;
+        Ok(())
     }
-    put_u2(out, bootstrap.handle)?;
-    put_arguments(out, pool, part, bootstrap.arguments.as_slice())?;
-    Ok(())
+}
+
+/// Writes bootstrap methods of the table that is this attribute.
+#[derive(Drop)]
+struct BootstrapWriter<'p> {
+    pool: &'p Pool,
+    id: AttributeId,
+}
+
+impl WriteItem for BootstrapWriter<'_> {
+    ghost use Rattle.class_model.specs.Attributes.{IsBootstrap};
+    ghost use Rattle.class_model.specs.Spelling.{bootstrap};
+    ghost use Rattle.const_pool.specs.declared.write_fault.AttributePart.TheVariants as items;
+    ghost use Rattle.class_write.specs.Misfits as misfits;
+
+    type Item = Bootstrap;
+
+    ghost text = { λ s. bootstrap };
+
+    ghost is_shaped = { λ s. IsBootstrap s.pool.now };
+
+    ghost misfit = { λ s number. misfits.bootstrap s.pool.now (misfits.at s.id (items.Bootstrap number)) };
+
+    #[tactic(auto, using(crate::proofs::Faults::faults), unfolding(class_model::specs::Spelling::bootstrap, crate::specs::Misfits::bootstrap))]
+    fn write(&self, out: &mut Vec<u8>, number: u32, item: &Bootstrap) -> Result<(), WriteFault> {
+        let pool = self.pool;
+        let part = Part::Attribute(self.id, AttributePart::Bootstrap(number));
+        if !pool.is_handle(item.handle) {
+            return Err(WriteFault::BadShape(part));
+        }
+        put_u2(out, item.handle)?;
+        let arguments = item.arguments.as_slice();
+        write_counted(out, &ArgumentWriter { pool, part }, part, arguments)?;
+        Ok(())
+    }
 }
 
 /// Writes the table of bootstrap methods that is this attribute.
@@ -139,16 +162,8 @@ fn put_bootstraps(
     ensures none { OnOk result (misfits.bootstraps pool.now id entries.now ≡ None) }
     ensures fault { IfErr result (λ e. Refuses e (misfits.bootstraps pool.now id entries.now)) }
 {
-    put_count(
-        out,
-        Part::Attribute(id, AttributePart::Bootstraps),
-        entries.len(),
-    )?;
-    for i in 0..entries.len() {
-        let part = Part::Attribute(id, AttributePart::Bootstrap(i as u32));
-        put_bootstrap(out, pool, part, &entries[i])?;
-    }
-    Ok(())
+    let part = Part::Attribute(id, AttributePart::Bootstraps);
+    write_counted(out, &BootstrapWriter { pool, id }, part, entries)
 }
 
 /// Writes the index of the constant of a field.
@@ -195,7 +210,7 @@ pub(crate) fn put_code_bytes(
     ensures bytes { OnOk result (IsBytes code.now) }
     ensures fault { IfErr result (λ e. Refuses e (unless (misfits.is_code_length (length code.now)) (faults.BadShape (misfits.at id items.Code)))) }
 {
-    if code.is_empty() || code.len() > 65535 {
+    if code.is_empty() || code.len() > GREATEST_LENGTH {
         return Err(WriteFault::BadShape(Part::Attribute(id, AttributePart::Code)));
     }
     put_u2(out, max_stack)?;

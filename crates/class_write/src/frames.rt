@@ -11,40 +11,76 @@ ghost use Rattle.class_write.specs.Misfits.{at};
 ghost use Rattle.class_write.specs.FrameText.{head, lists};
 ghost use Rattle.const_pool.specs.declared.write_fault.AttributePart.TheVariants as items;
 
-use crate::order::put_count;
+use crate::item_lists::{WriteItem, write_counted, write_many};
 use class_model::{FrameType, Pool, StackFrame};
 use const_pool::{AttributeId, AttributePart, Part, WriteFault, put_u2};
+
+/// The tags of verification types that have an index or an offset behind them; those below have nothing.
+const OBJECT_TAG: u8 = 7;
+
+const UNINITIALIZED_TAG: u8 = 8;
+
+/// The lowest tag of each form of frame; a frame of a lower tag is the same as the one before.
+const SAME_LOCALS_1_TAG: u8 = 64;
+
+const RESERVED_TAG: u8 = 128;
+
+const SAME_LOCALS_1_EXTENDED_TAG: u8 = 247;
+
+const SAME_EXTENDED_TAG: u8 = 251;
+
+const APPEND_TAG: u8 = 252;
+
+const FULL_TAG: u8 = 255;
 
 #[tactic(auto, unfolding(crate::specs::Misfits::is_frame_type))]
 fn is_frame_type(pool: &Pool, t: &FrameType) -> bool
     ensures { result ≡ misfits.is_frame_type pool.now t.now }
 {
     let FrameType { tag, index } = *t;
-    if tag > 8 {
+    if tag > UNINITIALIZED_TAG {
         return false;
     }
-    match tag {
-        7 => pool.is_class(index),
-        8 => true,
-        _ => index == 0,
+    if tag == OBJECT_TAG {
+        return pool.is_class(index);
     }
+    if tag == UNINITIALIZED_TAG {
+        return true;
+    }
+    index == 0
 }
 
-#[tactic(auto, using(crate::proofs::Faults::faults), unfolding(class_model::specs::Spelling::frame_type))]
-fn put_type(out: &mut Vec<u8>, pool: &Pool, part: Part, t: &FrameType) -> Result<(), WriteFault>
-    ensures ok { OnOk result (out.new.items ≡ out.old.items ++ spelling.frame_type t.now) }
-    ensures shaped { OnOk result (IsFrameType pool.now t.now) }
-    ensures none { OnOk result (misfits.frame_type pool.now part t.now ≡ None) }
-    ensures fault { IfErr result (λ e. Refuses e (misfits.frame_type pool.now part t.now)) }
-{
-    if !is_frame_type(pool, t) {
-        return Err(WriteFault::BadShape(part));
+/// Writes types of a frame that is this part.
+#[derive(Drop)]
+struct TypeWriter<'p> {
+    pool: &'p Pool,
+    part: Part,
+}
+
+impl WriteItem for TypeWriter<'_> {
+    ghost use Rattle.class_model.specs.Attributes.{IsFrameType};
+    ghost use Rattle.class_model.specs.Spelling.{frame_type};
+    ghost use Rattle.class_write.specs.Misfits as misfits;
+
+    type Item = FrameType;
+
+    ghost text = { λ s. frame_type };
+
+    ghost is_shaped = { λ s. IsFrameType s.pool.now };
+
+    ghost misfit = { λ s number. misfits.frame_type s.pool.now s.part };
+
+    #[tactic(auto, using(crate::proofs::Faults::faults), unfolding(class_model::specs::Spelling::frame_type))]
+    fn write(&self, out: &mut Vec<u8>, _number: u32, item: &FrameType) -> Result<(), WriteFault> {
+        if !is_frame_type(self.pool, item) {
+            return Err(WriteFault::BadShape(self.part));
+        }
+        out.push(item.tag)?;
+        if item.tag >= OBJECT_TAG {
+            put_u2(out, item.index)?;
+        }
+        Ok(())
     }
-    out.push(t.tag)?;
-    if t.tag >= 7 {
-        put_u2(out, t.index)?;
-    }
-    Ok(())
 }
 
 /// Writes types without a count.
@@ -60,12 +96,11 @@ fn put_types(
     ensures none { OnOk result (misfits.frame_types pool.now part types.now ≡ None) }
     ensures fault { IfErr result (λ e. Refuses e (misfits.frame_types pool.now part types.now)) }
 {
-    for i in 0..types.len() {
-        put_type(out, pool, part, &types[i])?;
-    }
+    write_many(out, &TypeWriter { pool, part }, types)?;
     Ok(())
 }
 
+/// Writes types behind their count.
 fn put_counted_types(
     out: &mut Vec<u8>,
     pool: &Pool,
@@ -77,8 +112,7 @@ fn put_counted_types(
     ensures none { OnOk result (misfits.frame_types pool.now part types.now ≡ None) }
     ensures fault { IfErr result (λ e. Refuses e (misfits.frame_types pool.now part types.now)) }
 {
-    put_count(out, part, types.len())?;
-    put_types(out, pool, part, types)
+    write_counted(out, &TypeWriter { pool, part }, part, types)
 }
 
 #[tactic(auto, unfolding(class_model::specs::Attributes::has_layout))]
@@ -88,23 +122,23 @@ fn has_layout(frame: &StackFrame) -> bool
     let tag = frame.tag;
     let locals = frame.locals.len();
     let stack = frame.stack.len();
-    if tag < 64 {
+    if tag < SAME_LOCALS_1_TAG {
         return frame.delta == u16::from(tag) && locals == 0 && stack == 0;
     }
-    if tag < 128 {
-        return frame.delta == u16::from(tag) - 64 && locals == 0 && stack == 1;
+    if tag < RESERVED_TAG {
+        return frame.delta == u16::from(tag - SAME_LOCALS_1_TAG) && locals == 0 && stack == 1;
     }
-    if tag < 247 {
+    if tag < SAME_LOCALS_1_EXTENDED_TAG {
         return false;
     }
-    if tag == 247 {
+    if tag == SAME_LOCALS_1_EXTENDED_TAG {
         return locals == 0 && stack == 1;
     }
-    if tag < 252 {
+    if tag < APPEND_TAG {
         return locals == 0 && stack == 0;
     }
-    if tag < 255 {
-        return locals == usize::from(tag) - 251 && stack == 0;
+    if tag < FULL_TAG {
+        return locals == usize::from(tag - SAME_EXTENDED_TAG) && stack == 0;
     }
     true
 }
@@ -117,7 +151,7 @@ fn put_head(out: &mut Vec<u8>, frame: &StackFrame) -> Result<(), WriteFault>
 {
     let delta = frame.delta;
     out.push(frame.tag)?;
-    if frame.tag >= 128 {
+    if frame.tag >= RESERVED_TAG {
         put_u2(out, delta)?;
     }
     Ok(())
@@ -140,7 +174,7 @@ fn put_lists(
 {
     let locals = frame.locals.as_slice();
     let stack = frame.stack.as_slice();
-    if frame.tag == 255 {
+    if frame.tag == FULL_TAG {
         put_counted_types(out, pool, part, locals)?;
         return put_counted_types(out, pool, part, stack);
     }
@@ -148,24 +182,37 @@ fn put_lists(
     put_types(out, pool, part, stack)
 }
 
-#[tactic(auto, using(crate::proofs::Faults::faults), unfolding(crate::specs::Misfits::frame))]
-fn put_frame(
-    out: &mut Vec<u8>,
-    pool: &Pool,
-    part: Part,
-    frame: &StackFrame,
-) -> Result<(), WriteFault>
-    ensures ok { OnOk result (out.new.items ≡ out.old.items ++ spelling.frame frame.now) }
-    ensures shaped { OnOk result (IsFrame pool.now frame.now) }
-    ensures none { OnOk result (misfits.frame pool.now part frame.now ≡ None) }
-    ensures fault { IfErr result (λ e. Refuses e (misfits.frame pool.now part frame.now)) }
-{
-    if !has_layout(frame) {
-        return Err(WriteFault::BadShape(part));
+/// Writes frames of the stack map that is this attribute.
+#[derive(Drop)]
+struct FrameWriter<'p> {
+    pool: &'p Pool,
+    id: AttributeId,
+}
+
+impl WriteItem for FrameWriter<'_> {
+    ghost use Rattle.class_model.specs.Attributes.{IsFrame};
+    ghost use Rattle.class_model.specs.Spelling.{frame};
+    ghost use Rattle.const_pool.specs.declared.write_fault.AttributePart.TheVariants as items;
+    ghost use Rattle.class_write.specs.Misfits as misfits;
+
+    type Item = StackFrame;
+
+    ghost text = { λ s. frame };
+
+    ghost is_shaped = { λ s. IsFrame s.pool.now };
+
+    ghost misfit = { λ s number. misfits.frame s.pool.now (misfits.at s.id (items.Frame number)) };
+
+    #[tactic(auto, using(crate::proofs::Faults::faults), unfolding(crate::specs::Misfits::frame))]
+    fn write(&self, out: &mut Vec<u8>, number: u32, item: &StackFrame) -> Result<(), WriteFault> {
+        let part = Part::Attribute(self.id, AttributePart::Frame(number));
+        if !has_layout(item) {
+            return Err(WriteFault::BadShape(part));
+        }
+        put_head(out, item)?;
+        put_lists(out, self.pool, part, item)?;
+        Ok(())
     }
-    put_head(out, frame)?;
-    put_lists(out, pool, part, frame)?;
-    Ok(())
 }
 
 /// Writes the frames of the stack map that is this attribute.
@@ -180,14 +227,6 @@ pub(crate) fn put_frames(
     ensures none { OnOk result (misfits.frames pool.now id frames.now ≡ None) }
     ensures fault { IfErr result (λ e. Refuses e (misfits.frames pool.now id frames.now)) }
 {
-    put_count(
-        out,
-        Part::Attribute(id, AttributePart::Frames),
-        frames.len(),
-    )?;
-    for i in 0..frames.len() {
-        let part = Part::Attribute(id, AttributePart::Frame(i as u32));
-        put_frame(out, pool, part, &frames[i])?;
-    }
-    Ok(())
+    let part = Part::Attribute(id, AttributePart::Frames);
+    write_counted(out, &FrameWriter { pool, id }, part, frames)
 }

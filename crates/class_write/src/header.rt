@@ -13,12 +13,17 @@ ghost use Rattle.class_write.specs.Misfits.{misfit};
 ghost use Rattle.class_write.specs.Order.{Refuses};
 
 use crate::attributes::{Stand, put_attributes};
+use crate::item_lists::{WriteItem, write_counted};
 use crate::members::{put_fields, put_methods};
-use crate::order::put_count;
 use class_model::{Class, MAGIC, Pool};
 use const_pool::{Holder, Part, WriteFault, put_u2, put_u4, write_pool};
 use std::alloc::Global;
 use tree_value::Bytes;
+
+/// The major versions of class files (JVMS 4.1) that have a text, those of Java 8 to Java 21.
+const OLDEST_MAJOR: u16 = 52;
+
+const NEWEST_MAJOR: u16 = 65;
 
 /// Writes the magic number and the versions.
 #[tactic(auto, using(crate::proofs::Faults::faults))]
@@ -30,7 +35,7 @@ fn put_version(out: &mut Vec<u8>, class: &Class) -> Result<(), WriteFault>
     ensures none { OnOk result (misfits.version class.now ≡ None) }
     ensures fault { IfErr result (λ e. Refuses e (misfits.version class.now)) }
 {
-    if class.major < 52 || class.major > 65 {
+    if class.major < OLDEST_MAJOR || class.major > NEWEST_MAJOR {
         return Err(WriteFault::BadShape(Part::Major));
     }
     put_u4(out, MAGIC)?;
@@ -83,18 +88,34 @@ fn put_names(out: &mut Vec<u8>, class: &Class) -> Result<(), WriteFault>
     Ok(())
 }
 
-#[tactic(auto, using(crate::proofs::Faults::faults))]
-fn put_interface(out: &mut Vec<u8>, pool: &Pool, number: u32, index: u16) -> Result<(), WriteFault>
-    ensures ok { OnOk result (out.new.items ≡ out.old.items ++ spelling.u2 index) }
-    ensures shaped { OnOk result (is_plain_class pool.now index ≡ true) }
-    ensures none { OnOk result (misfits.interface pool.now number index ≡ None) }
-    ensures fault { IfErr result (λ e. Refuses e (misfits.interface pool.now number index)) }
-{
-    if !pool.is_plain_class(index) {
-        return Err(WriteFault::BadShape(Part::Interface(number)));
+/// Writes interfaces.
+#[derive(Drop)]
+struct InterfaceWriter<'p> {
+    pool: &'p Pool,
+}
+
+impl WriteItem for InterfaceWriter<'_> {
+    ghost use Rattle.std.specs.Prelude.{◌≡◌, true};
+    ghost use Rattle.class_model.specs.Shape.{is_plain_class};
+    ghost use Rattle.class_model.specs.Spelling.{u2};
+    ghost use Rattle.class_write.specs.Misfits as misfits;
+
+    type Item = u16;
+
+    ghost text = { λ s. u2 };
+
+    ghost is_shaped = { λ s index. is_plain_class s.pool.now index ≡ true };
+
+    ghost misfit = { λ s. misfits.interface s.pool.now };
+
+    #[tactic(auto, using(crate::proofs::Faults::faults))]
+    fn write(&self, out: &mut Vec<u8>, number: u32, item: &u16) -> Result<(), WriteFault> {
+        if !self.pool.is_plain_class(*item) {
+            return Err(WriteFault::BadShape(Part::Interface(number)));
+        }
+        put_u2(out, *item)?;
+        Ok(())
     }
-    put_u2(out, index)?;
-    Ok(())
 }
 
 /// Writes the interfaces behind their count.
@@ -104,11 +125,7 @@ fn put_interfaces(out: &mut Vec<u8>, pool: &Pool, interfaces: &[u16]) -> Result<
     ensures none { OnOk result (misfits.interfaces pool.now interfaces.now ≡ None) }
     ensures fault { IfErr result (λ e. Refuses e (misfits.interfaces pool.now interfaces.now)) }
 {
-    put_count(out, Part::Interfaces, interfaces.len())?;
-    for i in 0..interfaces.len() {
-        put_interface(out, pool, i as u32, interfaces[i])?;
-    }
-    Ok(())
+    write_counted(out, &InterfaceWriter { pool }, Part::Interfaces, interfaces)
 }
 
 /// Writes what stands before the interfaces.

@@ -8,9 +8,9 @@ mod attributes;
 mod contents;
 mod frames;
 mod header;
+mod item_lists;
 mod laws;
 mod members;
-mod order;
 
 pub use header::write_class;
 pub use laws::misfit_law;

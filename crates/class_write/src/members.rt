@@ -1,6 +1,6 @@
 //! Fields and methods (JVMS 4.5 and 4.6).
 
-ghost use Rattle.std.specs.Prelude.{◌≡◌, ◌++◌, ◌∷◌, [], ◌<◌, ◌^◌, List, true, false, length, None, IfOk, OnOk, IfErr, IsOkUnless};
+ghost use Rattle.std.specs.Prelude.{◌≡◌, ◌++◌, ◌∷◌, [], ◌<◌, ◌^◌, List, false, slice_index_or, None, IfOk, OnOk, IfErr, IsOkUnless};
 ghost use Rattle.std.specs.List.{list_any};
 ghost use Rattle.class_model.specs.declared.class_file.Member.{Member};
 ghost use Rattle.class_model.specs.Shape.{IsField, IsMethod, IsMembers, are_same};
@@ -10,9 +10,10 @@ ghost use Rattle.class_write.specs.Misfits as misfits;
 ghost use Rattle.class_write.specs.Order.{Refuses};
 
 use crate::attributes::{Stand, put_attributes};
-use crate::order::put_count;
+use crate::item_lists::{WriteItem, write_counted};
 use class_model::{Member, Pool, has_code, is_bare, most_slots};
 use const_pool::{Holder, MemberKeys, MemberPart, Part, WriteFault, put_u2};
+use sqlite_items::Items;
 use std::alloc::Global;
 
 /// Enters a member behind those before it, and tells whether one of them has its name and descriptor.
@@ -23,6 +24,31 @@ fn enter<'a>(seen: &mut MemberKeys<'a>, pool: &'a Pool, member: &Member) -> Resu
 {
     let added = seen.insert(pool, member.name, member.descriptor)?;
     Ok(!added)
+}
+
+/// Tells of each member whether an earlier one has its name and descriptor.
+fn doubles(alloc: Global, pool: &Pool, members: &[Member]) -> Result<Items<bool>, WriteFault>
+    ensures doubles { IfOk result (λ doubles. doubles ≡ misfits.doubles pool.now members.now) }
+    ensures memory { IsOkUnless result WriteFault.Memory }
+{
+    let mut seen = MemberKeys::new(alloc);
+    let mut doubles = Items::new(alloc);
+    for i in 0..members.len() {
+        let double = enter(&mut seen, pool, &members[i])?;
+        doubles.push(double)?;
+    }
+    Ok(doubles)
+}
+
+/// What is told of the member of a number.
+fn told(doubles: &[bool], number: u32) -> bool
+    ensures { result ≡ slice_index_or doubles.now number false }
+{
+    let number = number as usize;
+    if number < doubles.len() {
+        return doubles[number];
+    }
+    false
 }
 
 /// Writes the flags, the name and the descriptor.
@@ -37,36 +63,46 @@ fn put_head(out: &mut Vec<u8>, member: &Member) -> Result<(), WriteFault>
     Ok(())
 }
 
-/// Writes the field of a number. Where it is a `double`, an earlier one has its name and descriptor.
-#[tactic(auto, using(crate::proofs::Faults::faults), unfolding(crate::specs::Misfits::field, class_model::specs::Spelling::member))]
-fn put_field(
-    out: &mut Vec<u8>,
+/// Writes fields, of each of which it is told whether it is a double.
+#[derive(Drop)]
+struct FieldWriter<'p> {
     alloc: Global,
-    pool: &Pool,
-    double: bool,
-    number: u32,
-    field: &Member,
-) -> Result<(), WriteFault>
-    ensures ok { OnOk result (out.new.items ≡ out.old.items ++ spelling.member field.now) }
-    ensures shaped { OnOk result (IsField pool.now field.now) }
-    ensures single { OnOk result (double ≡ false) }
-    ensures none { OnOk result (misfits.field pool.now double number field.now ≡ None) }
-    ensures fault { IfErr result (λ e. Refuses e (misfits.field pool.now double number field.now)) }
-{
-    if !pool.is_field_name(field.name) {
-        return Err(WriteFault::BadShape(Part::Field(number, MemberPart::Name)));
+    pool: &'p Pool,
+    doubles: &'p [bool],
+}
+
+impl WriteItem for FieldWriter<'_> {
+    ghost use Rattle.std.specs.Prelude.{false, slice_index_or};
+    ghost use Rattle.class_model.specs.Shape.{IsField};
+    ghost use Rattle.class_model.specs.Spelling.{member};
+    ghost use Rattle.class_write.specs.Misfits as misfits;
+
+    type Item = Member;
+
+    ghost text = { λ s. member };
+
+    ghost is_shaped = { λ s. IsField s.pool.now };
+
+    ghost misfit = { λ s number. misfits.field s.pool.now (slice_index_or s.doubles.now number false) number };
+
+    #[tactic(auto, using(crate::proofs::Faults::faults), unfolding(crate::specs::Misfits::field, class_model::specs::Spelling::member))]
+    fn write(&self, out: &mut Vec<u8>, number: u32, item: &Member) -> Result<(), WriteFault> {
+        let pool = self.pool;
+        if !pool.is_field_name(item.name) {
+            return Err(WriteFault::BadShape(Part::Field(number, MemberPart::Name)));
+        }
+        if !pool.is_field_type(item.descriptor) || told(self.doubles, number) {
+            return Err(WriteFault::BadShape(Part::Field(number, MemberPart::Descriptor)));
+        }
+        put_head(out, item)?;
+        let stand = Stand {
+            holder: Holder::Field(number),
+            descriptor: pool.text_or_empty(item.descriptor),
+            bare: false,
+        };
+        put_attributes(out, self.alloc, pool, stand, item.attributes.as_slice())?;
+        Ok(())
     }
-    if !pool.is_field_type(field.descriptor) || double {
-        return Err(WriteFault::BadShape(Part::Field(number, MemberPart::Descriptor)));
-    }
-    put_head(out, field)?;
-    let stand = Stand {
-        holder: Holder::Field(number),
-        descriptor: pool.text_or_empty(field.descriptor),
-        bare: false,
-    };
-    put_attributes(out, alloc, pool, stand, field.attributes.as_slice())?;
-    Ok(())
 }
 
 /// Writes the fields behind their count.
@@ -81,13 +117,13 @@ pub(crate) fn put_fields(
     ensures none { OnOk result (misfits.fields pool.now fields.now ≡ None) }
     ensures fault { IfErr result (λ e. Refuses e (misfits.fields pool.now fields.now)) }
 {
-    put_count(out, Part::Fields, fields.len())?;
-    let mut seen = MemberKeys::new(alloc);
-    for i in 0..fields.len() {
-        let field = &fields[i];
-        let double = enter(&mut seen, pool, field)?;
-        put_field(out, alloc, pool, double, i as u32, field)?;
-    }
+    let doubles = doubles(alloc, pool, fields)?;
+    let writer = FieldWriter {
+        alloc,
+        pool,
+        doubles: doubles.as_slice(),
+    };
+    write_counted(out, &writer, Part::Fields, fields)?;
     Ok(())
 }
 
@@ -98,39 +134,50 @@ fn has_its_code(method: &Member) -> bool
     if is_bare(method.flags) { !has } else { has }
 }
 
-/// Writes the method of a number. Where it is a `double`, an earlier one has its name and descriptor.
-#[tactic(auto, using(crate::proofs::Faults::faults), unfolding(crate::specs::Misfits::method, class_model::specs::Spelling::member))]
-fn put_method(
-    out: &mut Vec<u8>,
+/// Writes methods, of each of which it is told whether it is a double.
+#[derive(Drop)]
+struct MethodWriter<'p> {
     alloc: Global,
-    pool: &Pool,
-    double: bool,
-    number: u32,
-    method: &Member,
-) -> Result<(), WriteFault>
-    ensures ok { OnOk result (out.new.items ≡ out.old.items ++ spelling.member method.now) }
-    ensures shaped { OnOk result (IsMethod pool.now method.now) }
-    ensures single { OnOk result (double ≡ false) }
-    ensures none { OnOk result (misfits.method pool.now double number method.now ≡ None) }
-    ensures fault { IfErr result (λ e. Refuses e (misfits.method pool.now double number method.now)) }
-{
-    if !pool.is_method_name(method.name) {
-        return Err(WriteFault::BadShape(Part::Method(number, MemberPart::Name)));
+    pool: &'p Pool,
+    doubles: &'p [bool],
+}
+
+impl WriteItem for MethodWriter<'_> {
+    ghost use Rattle.std.specs.Prelude.{false, slice_index_or};
+    ghost use Rattle.class_model.specs.Shape.{IsMethod};
+    ghost use Rattle.class_model.specs.Spelling.{member};
+    ghost use Rattle.class_write.specs.Misfits as misfits;
+
+    type Item = Member;
+
+    ghost text = { λ s. member };
+
+    ghost is_shaped = { λ s. IsMethod s.pool.now };
+
+    ghost misfit = { λ s number. misfits.method s.pool.now (slice_index_or s.doubles.now number false) number };
+
+    #[tactic(auto, using(crate::proofs::Faults::faults), unfolding(crate::specs::Misfits::method, class_model::specs::Spelling::member))]
+    fn write(&self, out: &mut Vec<u8>, number: u32, item: &Member) -> Result<(), WriteFault> {
+        let pool = self.pool;
+        if !pool.is_method_name(item.name) {
+            return Err(WriteFault::BadShape(Part::Method(number, MemberPart::Name)));
+        }
+        let slots = most_slots(item.flags);
+        if !pool.is_method_type(slots, item.descriptor) || told(self.doubles, number) {
+            return Err(WriteFault::BadShape(Part::Method(number, MemberPart::Descriptor)));
+        }
+        put_head(out, item)?;
+        let stand = Stand {
+            holder: Holder::Method(number),
+            descriptor: &[],
+            bare: is_bare(item.flags),
+        };
+        put_attributes(out, self.alloc, pool, stand, item.attributes.as_slice())?;
+        if !has_its_code(item) {
+            return Err(WriteFault::BadShape(Part::Method(number, MemberPart::Code)));
+        }
+        Ok(())
     }
-    if !pool.is_method_type(most_slots(method.flags), method.descriptor) || double {
-        return Err(WriteFault::BadShape(Part::Method(number, MemberPart::Descriptor)));
-    }
-    put_head(out, method)?;
-    let stand = Stand {
-        holder: Holder::Method(number),
-        descriptor: &[],
-        bare: is_bare(method.flags),
-    };
-    put_attributes(out, alloc, pool, stand, method.attributes.as_slice())?;
-    if !has_its_code(method) {
-        return Err(WriteFault::BadShape(Part::Method(number, MemberPart::Code)));
-    }
-    Ok(())
 }
 
 /// Writes the methods behind their count.
@@ -145,12 +192,12 @@ pub(crate) fn put_methods(
     ensures none { OnOk result (misfits.methods pool.now methods.now ≡ None) }
     ensures fault { IfErr result (λ e. Refuses e (misfits.methods pool.now methods.now)) }
 {
-    put_count(out, Part::Methods, methods.len())?;
-    let mut seen = MemberKeys::new(alloc);
-    for i in 0..methods.len() {
-        let method = &methods[i];
-        let double = enter(&mut seen, pool, method)?;
-        put_method(out, alloc, pool, double, i as u32, method)?;
-    }
+    let doubles = doubles(alloc, pool, methods)?;
+    let writer = MethodWriter {
+        alloc,
+        pool,
+        doubles: doubles.as_slice(),
+    };
+    write_counted(out, &writer, Part::Methods, methods)?;
     Ok(())
 }

@@ -1,6 +1,6 @@
-use Rattle.std.proofs.Common.{◌∙◌}
+use Rattle.std.proofs.Common.{◌∙◌, refl}
 use Rattle.class_write.proofs.Faults.{passed_on}
-use Rattle.class_write.proofs.Lists.{refused_count, refused_at, one_more, all_written, all_shaped, all_fit}
+use Rattle.class_write.proofs.Lists.{refused_count, refused_item, refused_at, counted_fit, one_more, written_both, all_flat, all_shaped, all_fit}
 use Rattle.class_write.proofs.AnnotationLemmas.{text_below, misfit_below, shape_below, no_depth}
 use Rattle.class_write.proofs.annotations.+element.Goals as goal
 
@@ -26,7 +26,7 @@ put_pairs-returns-in_err-put_count-clause-fault t c = passed_on _ _ _ c.from_res
 pub put_pairs-returns-in_err-put_pair-clause-fault : goal.put_pairs-returns-in_err-put_pair-clause-fault
 put_pairs-returns-in_err-put_pair-clause-fault t c =
     passed_on _ _ _ c.from_residual-in_err-put_pair.ensures.1
-    (refused_at _ _ _ c.loop-i.invariant c.loop-i-test.true c.index-pairs-i.is c.in_ok-put_count.ensures.few c.in_err-put_pair.ensures.fault)
+    (refused_item _ _ _ _ c.in_ok-put_count.ensures.few (refused_at _ _ c.loop-i.invariant c.loop-i-test.true c.index-pairs-i.is c.in_err-put_pair.ensures.fault))
 
 pub put_pairs-loop-i-preserved : goal.put_pairs-loop-i-preserved
 put_pairs-loop-i-preserved t c =
@@ -34,9 +34,9 @@ put_pairs-loop-i-preserved t c =
 
 pub put_pairs-returns : goal.put_pairs-returns
 put_pairs-returns t c = record {
-  ok = all_written _ c.loop-i.invariant c.loop-i-test.false c.in_ok-put_count.ensures.ok;
-  shaped = all_shaped c.loop-i.invariant c.loop-i-test.false c.in_ok-put_count.ensures.few;
-  none = all_fit _ c.loop-i.invariant c.loop-i-test.false c.in_ok-put_count.ensures.few;
+  ok = written_both _ _ _ _ _ _ c.in_ok-put_count.ensures.ok (all_flat c.loop-i.invariant c.loop-i-test.false) refl;
+  shaped = (c.in_ok-put_count.ensures.few, all_shaped c.loop-i.invariant c.loop-i-test.false);
+  none = counted_fit _ _ _ c.in_ok-put_count.ensures.few (all_fit c.loop-i.invariant c.loop-i-test.false);
   fault = tt;
 }
 
@@ -46,7 +46,7 @@ put_values-returns-in_err-put_count-clause-fault t c = passed_on _ _ _ c.from_re
 pub put_values-returns-in_err-put_element-clause-fault : goal.put_values-returns-in_err-put_element-clause-fault
 put_values-returns-in_err-put_element-clause-fault t c =
     passed_on _ _ _ c.from_residual-in_err-put_element.ensures.1
-    (refused_at _ _ _ c.loop-i.invariant c.loop-i-test.true c.index-values-i.is c.in_ok-put_count.ensures.few c.in_err-put_element.ensures.fault)
+    (refused_item _ _ _ _ c.in_ok-put_count.ensures.few (refused_at _ _ c.loop-i.invariant c.loop-i-test.true c.index-values-i.is c.in_err-put_element.ensures.fault))
 
 pub put_values-loop-i-preserved : goal.put_values-loop-i-preserved
 put_values-loop-i-preserved t c =
@@ -54,8 +54,8 @@ put_values-loop-i-preserved t c =
 
 pub put_values-returns : goal.put_values-returns
 put_values-returns t c = record {
-  ok = all_written _ c.loop-i.invariant c.loop-i-test.false c.in_ok-put_count.ensures.ok;
-  shaped = all_shaped c.loop-i.invariant c.loop-i-test.false c.in_ok-put_count.ensures.few;
-  none = all_fit _ c.loop-i.invariant c.loop-i-test.false c.in_ok-put_count.ensures.few;
+  ok = written_both _ _ _ _ _ _ c.in_ok-put_count.ensures.ok (all_flat c.loop-i.invariant c.loop-i-test.false) refl;
+  shaped = (c.in_ok-put_count.ensures.few, all_shaped c.loop-i.invariant c.loop-i-test.false);
+  none = counted_fit _ _ _ c.in_ok-put_count.ensures.few (all_fit c.loop-i.invariant c.loop-i-test.false);
   fault = tt;
 }

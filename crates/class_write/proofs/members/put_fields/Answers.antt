@@ -1,43 +1,25 @@
-use Rattle.std.proofs.Common.{rules, ◌≡◌, take, refl}
+use Rattle.std.proofs.Common.{◌≡◌, ◌∙◌, None, sym}
 use Rattle.class_write.specs.Misfits as misfits
-use Rattle.class_write.proofs.Faults.{passed_on, refuses_memory}
-use Rattle.class_write.proofs.Lists.{refused_count, refused_at, one_more, all_written, all_shaped, all_fit, front_more}
-use Rattle.class_write.proofs.MemberLemmas.{singles_next, singles}
+use Rattle.class_write.proofs.Faults.{passed_on, refuses_as, refuses_memory}
+use Rattle.class_write.proofs.MemberLemmas.{single_fields, fields_told}
 use Rattle.class_write.proofs.members.put_fields.Goals as goal
 
-pub returns-in_err-put_count-clause-fault : goal.returns-in_err-put_count-clause-fault
-returns-in_err-put_count-clause-fault c =
-    passed_on _ _ _ c.from_residual.ensures.1 (refused_count _ _ _ _ c.in_err-put_count.ensures.fault)
+pub returns-in_err-doubles-clause-fault : goal.returns-in_err-doubles-clause-fault
+returns-in_err-doubles-clause-fault c = passed_on _ _ _ c.from_residual.ensures.1 (refuses_memory _ _ c.in_err-doubles.ensures.memory)
 
-pub returns-in_err-double-clause-fault : goal.returns-in_err-double-clause-fault
-returns-in_err-double-clause-fault c = passed_on _ _ _ c.from_residual-in_err-double.ensures.1 (refuses_memory _ _ c.in_err-double.ensures.memory)
-
-pub returns-in_err-put_field-clause-fault : goal.returns-in_err-put_field-clause-fault
-returns-in_err-put_field-clause-fault c =
-    let before = take c.loop-i.i c.args.fields.now in
-    let double : misfits.is_double c.args.pool.now c.args.fields.now c.loop-i.i c.index-fields-i.result ≡ c.in_ok-double.double = c.in_ok-double.ensures.double before c.loop-i.invariant.2 in
-    passed_on _ _ _ c.from_residual-in_err-put_field.ensures.1
-    (refused_at _ _ _ c.loop-i.invariant.0 c.loop-i-test.true c.index-fields-i.is c.in_ok-put_count.ensures.few (rw double c.in_err-put_field.ensures.fault))
-
-pub loop-i-init : goal.loop-i-init
-loop-i-init c = (search rules, refl, c.new-seen.ensures c.args.pool.now)
-
-pub loop-i-preserved : goal.loop-i-preserved
-loop-i-preserved c =
-    let before = take c.loop-i.i c.args.fields.now in
-    let double : misfits.is_double c.args.pool.now c.args.fields.now c.loop-i.i c.index-fields-i.result ≡ c.in_ok-double.double = c.in_ok-double.ensures.double before c.loop-i.invariant.2 in (
-      one_more _ c.loop-i.invariant.0 c.loop-i-test.true c.index-fields-i.is c.in_ok-put_field.ensures.ok c.in_ok-put_field.ensures.shaped (rw double c.in_ok-put_field.ensures.none),
-      singles_next _ _ _ _ c.loop-i-test.true c.index-fields-i.is c.loop-i.invariant.1 (rw double c.in_ok-put_field.ensures.single),
-      rw (front_more c.args.fields.now c.loop-i.i c.index-fields-i.result c.loop-i-test.true c.index-fields-i.is) (c.in_ok-double.ensures.seen before c.loop-i.invariant.2),
-    )
+pub returns-in_err-write_counted-clause-fault : goal.returns-in_err-write_counted-clause-fault
+returns-in_err-write_counted-clause-fault c =
+    let told : c.as_slice.result.now ≡ misfits.doubles c.args.pool.now c.args.fields.now = c.as_slice.ensures ∙ c.in_ok-doubles.ensures.doubles in
+    passed_on _ _ _ c.from_residual-in_err-write_counted.ensures.1
+    (refuses_as _ _ _ (fields_told c.args.pool.now c.args.fields.now _ told) c.in_err-write_counted.ensures.fault)
 
 pub returns : goal.returns
-returns c = record {
-  ok = all_written _ c.loop-i.invariant.0 c.loop-i-test.false c.in_ok-put_count.ensures.ok;
-  shaped = record {
-    each = all_shaped c.loop-i.invariant.0 c.loop-i-test.false c.in_ok-put_count.ensures.few;
-    once = singles _ _ _ c.loop-i-test.false c.loop-i.invariant.1;
-  };
-  none = all_fit _ c.loop-i.invariant.0 c.loop-i-test.false c.in_ok-put_count.ensures.few;
-  fault = tt;
-}
+returns c =
+    let told : c.as_slice.result.now ≡ misfits.doubles c.args.pool.now c.args.fields.now = c.as_slice.ensures ∙ c.in_ok-doubles.ensures.doubles in
+    let none : misfits.fields c.args.pool.now c.args.fields.now ≡ None = sym (fields_told c.args.pool.now c.args.fields.now _ told) ∙ c.in_ok-write_counted.ensures.none in
+    record {
+      ok = c.in_ok-write_counted.ensures.ok;
+      shaped = record { each = c.in_ok-write_counted.ensures.shaped; once = single_fields c.args.pool.now c.args.fields.now none };
+      none = none;
+      fault = tt;
+    }
