@@ -134,6 +134,8 @@ fn put_layer(
     }
 }
 
+/// Writes values behind their count. This loop and that of pairs are their own, since a cycle of calls through a
+/// `WriteItem` gets no proof.
 #[cycle(element)]
 fn put_values(
     out: &mut Vec<u8>,
@@ -176,6 +178,7 @@ fn put_pair(
     Ok(())
 }
 
+/// Writes pairs behind their count.
 #[cycle(element)]
 fn put_pairs(
     out: &mut Vec<u8>,
