@@ -1,7 +1,10 @@
 -- What natives on texts find in the world before they make a text.
-use Rattle.std.specs.Prelude.{ℕ, List, ◌++◌, Option, option_map, option_and_then, Result, Ok, Err}
+use Rattle.std.specs.Prelude.{ℕ, List, ◌++◌, Option, Some, None, option_map, option_and_then, Result, Ok, Err}
 use Rattle.native_model.specs.declared.throw.Throw.{Throw}
-use Rattle.native_model.specs.Worlds.{World, as_text, seen}
+use Rattle.jvm_heap.specs.Objects.{throwable}
+use Rattle.native_model.specs.Texts.{dotted}
+use Rattle.native_model.specs.Plain.{after_colon}
+use Rattle.native_model.specs.Worlds.{NamedObject, World, as_text, seen}
 use Rattle.native_model.specs.Answers.{Answer, throws, gives_text}
 use Rattle.native_model.specs.Ends.{thrown_of}
 
@@ -13,3 +16,13 @@ joined_texts text other w = option_and_then (λ units. option_map (λ others. un
 abbrev pub text_or_thrown : Result (List ℕ) Throw → World → Answer
 text_or_thrown (Ok units) w = gives_text units w
 text_or_thrown (Err what) w = throws (thrown_of what)
+
+-- the class and the message of a throwable
+abbrev pub class_and_message : NamedObject → Option (List ℕ × ℕ)
+class_and_message (throwable class fields message cause) = Some (class, message)
+class_and_message _ = None
+
+-- what a throwable's text is
+abbrev pub thrown_units : ℕ → World → Option (List ℕ)
+thrown_units o w =
+    option_map (λ t. dotted t.0 ++ after_colon (seen as_text t.1 w)) (seen class_and_message o w)

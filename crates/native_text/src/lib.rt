@@ -10,6 +10,7 @@ mod boxes;
 mod builders;
 mod comparing;
 mod found;
+mod names;
 mod numbers;
 mod objects;
 mod parsing;
@@ -33,7 +34,8 @@ pub use numbers::{
     int_abs, int_greater, int_less, int_sum, long_abs, long_greater, long_less, long_sum,
 };
 pub use objects::{
-    enum_made, enum_name, enum_ordinal, object_equals, object_hash, object_made, required,
+    array_clone, enum_made, enum_name, enum_ordinal, object_equals, object_hash, object_made,
+    required,
 };
 pub use parsing::{int_parsed, long_parsed};
 pub use parts::{text_between, text_contains, text_from, text_index};
@@ -45,4 +47,6 @@ pub use texts::{
     append_number, boolean_box_text, int_box_text, int_text, long_box_text, text_of_char,
     text_of_number, text_of_truth,
 };
-pub use throwables::{suppressed_added, throwable_cause, throwable_made, throwable_message};
+pub use throwables::{
+    suppressed_added, throwable_cause, throwable_made, throwable_message, throwable_text,
+};

@@ -1,0 +1,13 @@
+use Rattle.std.proofs.Common.{◌≡◌, ◌++◌, length}
+use Rattle.class_model.specs.ModifiedUtf8.{IsModifiedUtf8}
+use Rattle.native_model.specs.Texts.{dotted}
+use Rattle.native_text.proofs.names.dotted_text.Given as goal
+
+abbrev pub invariant-each : goal.invariant-each
+invariant-each l = record {
+  told : dotted l.name ≡ l.units.items ++ dotted l.rest;
+  text : IsModifiedUtf8 l.rest;
+}
+
+abbrev pub decreases-each : goal.decreases-each
+decreases-each l = length l.rest
