@@ -19,15 +19,15 @@ abbrev pub count_of : Limit → List Class → ℕ
 count_of Classes classes = length classes
 count_of Methods classes = sum_by code_count classes
 
-abbrev pub IsWithin : Limit → List Class → Type 0
-IsWithin limit classes = count_of limit classes ≤ most limit
+abbrev pub IsWithinLimit : Limit → List Class → Type 0
+IsWithinLimit limit classes = count_of limit classes ≤ most limit
 
 -- within each limit
 pub record IsWithinLimits (classes : List Class) : Type 0 where
-  pub few_classes : IsWithin Classes classes
-  pub few_methods : IsWithin Methods classes
+  pub few_classes : IsWithinLimit Classes classes
+  pub few_methods : IsWithinLimit Methods classes
 
 -- The limit is passed, and none before it.
 abbrev pub IsFirstPassed : Limit → List Class → Type 0
 IsFirstPassed Classes classes = most Classes < count_of Classes classes
-IsFirstPassed Methods classes = IsWithin Classes classes × (most Methods < count_of Methods classes)
+IsFirstPassed Methods classes = IsWithinLimit Classes classes × (most Methods < count_of Methods classes)

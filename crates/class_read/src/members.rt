@@ -3,7 +3,7 @@
 ghost use Rattle.std.specs.Prelude.{◌≡◌, ◌++◌, ◌∷◌, [], IfOk};
 ghost use Rattle.const_pool.specs.SeenMembers.{HasSeen};
 ghost use Rattle.class_text.specs.Readers.{index_at, many_after, counted_after};
-ghost use Rattle.class_text.specs.Classes.{is_field_type, is_method_type, field_at, method_at};
+ghost use Rattle.class_text.specs.Classes.{leads_to_field_type, leads_to_method_type, field_at, method_at};
 ghost use Rattle.class_read.specs.Faults.{Gives};
 ghost use Rattle.class_read.specs.Entered.{IsEntered};
 
@@ -58,7 +58,7 @@ impl<'p> Before<'p> {
 }
 
 /// The descriptor of a field behind its name, which no field before has.
-#[tactic(auto, unfolding(class_text::specs::Readers::index_at, class_text::specs::Classes::is_field_type))]
+#[tactic(auto, unfolding(class_text::specs::Readers::index_at, class_text::specs::Classes::leads_to_field_type))]
 fn field_type_in<'a, 'p>(
     pool: &'p JudgedPool,
     before: &mut Before<'p>,
@@ -67,7 +67,7 @@ fn field_type_in<'a, 'p>(
     bytes: &'a [u8],
 ) -> Result<(u16, &'a [u8]), ClassFault>
     requires { HasSeen pool.now before.old.list before.old.keys }
-    ensures read { Gives (λ r. (r.0, r.1.now)) result (index_at (is_field_type pool.now before.old.list name) end bytes.now) }
+    ensures read { Gives (λ r. (r.0, r.1.now)) result (index_at (leads_to_field_type pool.now before.old.list name) end bytes.now) }
     ensures list { before.new.list ≡ before.old.list }
     ensures seen { IfOk result (λ r. IsEntered pool.now name r.0 before.old.list before.new.keys) }
 {
@@ -82,7 +82,7 @@ fn field_type_in<'a, 'p>(
 }
 
 /// The descriptor of a method behind its flags and its name, which no method before has.
-#[tactic(auto, unfolding(class_text::specs::Readers::index_at, class_text::specs::Classes::is_method_type))]
+#[tactic(auto, unfolding(class_text::specs::Readers::index_at, class_text::specs::Classes::leads_to_method_type))]
 fn method_type_in<'a, 'p>(
     pool: &'p JudgedPool,
     before: &mut Before<'p>,
@@ -92,7 +92,7 @@ fn method_type_in<'a, 'p>(
     bytes: &'a [u8],
 ) -> Result<(u16, &'a [u8]), ClassFault>
     requires { HasSeen pool.now before.old.list before.old.keys }
-    ensures read { Gives (λ r. (r.0, r.1.now)) result (index_at (is_method_type pool.now before.old.list flags name) end bytes.now) }
+    ensures read { Gives (λ r. (r.0, r.1.now)) result (index_at (leads_to_method_type pool.now before.old.list flags name) end bytes.now) }
     ensures list { before.new.list ≡ before.old.list }
     ensures seen { IfOk result (λ r. IsEntered pool.now name r.0 before.old.list before.new.keys) }
 {

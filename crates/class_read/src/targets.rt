@@ -3,8 +3,8 @@
 ghost use Rattle.std.specs.Prelude.{◌≡◌, [], bytes_eq, codes, unwrap_or};
 ghost use Rattle.class_model.specs.Constants.{class_at};
 ghost use Rattle.class_text.specs.Readers.{index_at};
-ghost use Rattle.class_text.specs.Attributes.{is_caught};
-ghost use Rattle.class_text.specs.Classes.{is_super};
+ghost use Rattle.class_text.specs.Attributes.{leads_to_caught};
+ghost use Rattle.class_text.specs.Classes.{leads_to_super};
 ghost use Rattle.class_read.specs.Faults.{Gives};
 ghost use Rattle.class_read.specs.Targets.{leads_to};
 
@@ -41,9 +41,9 @@ pub(crate) enum Target<'a> {
     ValueFor(&'a [u8]),
 }
 
-#[tactic(auto, unfolding(class_text::specs::Attributes::is_caught, class_text::specs::Frames::is_class))]
+#[tactic(auto, unfolding(class_text::specs::Attributes::leads_to_caught, class_text::specs::Frames::leads_to_class))]
 fn is_caught(pool: &JudgedPool, number: u16) -> bool
-    ensures { result ≡ is_caught pool.now number }
+    ensures { result ≡ leads_to_caught pool.now number }
 {
     if number == 0 {
         return true;
@@ -60,9 +60,9 @@ fn is_object(pool: &JudgedPool, number: u16) -> bool
     }
 }
 
-#[tactic(auto, unfolding(class_text::specs::Classes::is_super))]
+#[tactic(auto, unfolding(class_text::specs::Classes::leads_to_super))]
 fn is_super(pool: &JudgedPool, this: u16, number: u16) -> bool
-    ensures { result ≡ is_super pool.now this number }
+    ensures { result ≡ leads_to_super pool.now this number }
 {
     if number == 0 {
         return is_object(pool, this);
@@ -70,7 +70,7 @@ fn is_super(pool: &JudgedPool, this: u16, number: u16) -> bool
     pool.is_plain_class(number)
 }
 
-#[tactic(auto, unfolding(class_text::specs::Frames::is_class, class_text::specs::Elements::is_text, class_text::specs::Elements::is_type, class_text::specs::Elements::is_result, class_text::specs::Elements::is_value, class_text::specs::Attributes::leads_to_handle, class_text::specs::Attributes::leads_to_loadable, class_text::specs::Attributes::leads_to_value, class_text::specs::Classes::is_field_name, class_text::specs::Classes::is_name_of_method))]
+#[tactic(auto, unfolding(class_text::specs::Frames::leads_to_class, class_text::specs::Elements::leads_to_text, class_text::specs::Elements::leads_to_type, class_text::specs::Elements::leads_to_result, class_text::specs::Elements::leads_to_value_of, class_text::specs::Attributes::leads_to_handle, class_text::specs::Attributes::leads_to_loadable, class_text::specs::Attributes::leads_to_value_for, class_text::specs::Classes::leads_to_field_name, class_text::specs::Classes::leads_to_method_name))]
 fn leads_to(pool: &JudgedPool, target: Target<'_>, number: u16) -> bool
     ensures { result ≡ leads_to pool.now target.entry number }
 {

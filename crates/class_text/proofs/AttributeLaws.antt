@@ -19,9 +19,9 @@ use Rattle.class_model.specs.Attributes as model
 use Rattle.class_model.specs.Spelling as spelling
 use Rattle.class_text.specs.Reading.{IsBytes}
 use Rattle.class_text.specs.Readers.{u2_at, index_at, counted_at}
-use Rattle.class_text.specs.Frames.{is_class, frame_at}
-use Rattle.class_text.specs.Elements.{is_text, note_at}
-use Rattle.class_text.specs.Attributes.{text_of, is_caught, handler_at, leads_to_handle, leads_to_loadable, bootstrap_at, other_at, stack_map_at, leads_to_value, constant_value_at, bootstraps_at, annotations_at, code_content_at, own_name}
+use Rattle.class_text.specs.Frames.{leads_to_class, frame_at}
+use Rattle.class_text.specs.Elements.{leads_to_text, note_at}
+use Rattle.class_text.specs.Attributes.{text_or_empty, leads_to_caught, handler_at, leads_to_handle, leads_to_loadable, bootstrap_at, other_at, stack_map_at, leads_to_value_for, constant_value_at, bootstraps_at, annotations_at, code_content_at, own_name}
 use Rattle.class_text.proofs.Numbers.{ok_is}
 use Rattle.class_text.proofs.Readers.{Reads, ReadsAll, all_reads, as_reads, made_reads, layer_reads, bind, bind_reads, either_reads_all}
 use Rattle.class_text.proofs.Parts.{u2_reads, index_reads, each_counted}
@@ -34,9 +34,9 @@ four a b c d = sym (append_assoc (a ++ b) c d ∙ append_assoc a b (c ++ d))
 
 -- ---- handlers and bootstrap methods
 
-caught_reads : (pool : Pool) → IsFew pool → Reads (index_at (is_caught pool)) (λ n. is_caught pool n ≡ true) (to_be_bytes w16)
-unfolding is_caught is_class
-caught_reads pool few = index_reads (is_caught pool) low
+caught_reads : (pool : Pool) → IsFew pool → Reads (index_at (leads_to_caught pool)) (λ n. leads_to_caught pool n ≡ true) (to_be_bytes w16)
+unfolding leads_to_caught leads_to_class
+caught_reads pool few = index_reads (leads_to_caught pool) low
   where
     low : (n : ℕ) → (eqb n 0 || is_some_that is_class_constant (constant_at pool n)) ≡ true → n < 2 ^ 16
     low n e = elim (cases_Bool (eqb n 0)) [
@@ -48,19 +48,19 @@ abbrev handler_of : ℕ → ℕ → ℕ → ℕ → Handler
 handler_of start end handler caught = record { start = start; end = end; handler = handler; catch_type = caught }
 
 pub handler_reads : (pool : Pool) → IsFew pool → Reads (handler_at pool) (IsHandler pool) spelling.handler
-unfolding handler_at is_caught is_class spelling.handler
+unfolding handler_at leads_to_caught leads_to_class spelling.handler
 handler_reads pool few =
     as_reads (handler_at pool) _ _ (IsHandler pool) spelling.handler
-    (bind_reads u2_at (λ n. n < 2 ^ 16) (to_be_bytes w16) (λ start. bind u2_at (λ end. bind u2_at (λ handler. bind (index_at (is_caught pool)) (λ caught end' bytes. Ok (handler_of start end handler caught, bytes)))))
-    (λ start h. (h.end < 2 ^ 16) × ((h.handler < 2 ^ 16) × ((is_caught pool h.catch_type ≡ true) × (h ≡ handler_of start h.end h.handler h.catch_type))))
+    (bind_reads u2_at (λ n. n < 2 ^ 16) (to_be_bytes w16) (λ start. bind u2_at (λ end. bind u2_at (λ handler. bind (index_at (leads_to_caught pool)) (λ caught end' bytes. Ok (handler_of start end handler caught, bytes)))))
+    (λ start h. (h.end < 2 ^ 16) × ((h.handler < 2 ^ 16) × ((leads_to_caught pool h.catch_type ≡ true) × (h ≡ handler_of start h.end h.handler h.catch_type))))
     (λ start h. to_be_bytes w16 h.end ++ (to_be_bytes w16 h.handler ++ to_be_bytes w16 h.catch_type)) (λ h. h.start) u2_reads
-    (λ start a. bind_reads u2_at (λ n. n < 2 ^ 16) (to_be_bytes w16) (λ end. bind u2_at (λ handler. bind (index_at (is_caught pool)) (λ caught end' bytes. Ok (handler_of start end handler caught, bytes))))
-    (λ end h. (h.handler < 2 ^ 16) × ((is_caught pool h.catch_type ≡ true) × (h ≡ handler_of start end h.handler h.catch_type)))
+    (λ start a. bind_reads u2_at (λ n. n < 2 ^ 16) (to_be_bytes w16) (λ end. bind u2_at (λ handler. bind (index_at (leads_to_caught pool)) (λ caught end' bytes. Ok (handler_of start end handler caught, bytes))))
+    (λ end h. (h.handler < 2 ^ 16) × ((leads_to_caught pool h.catch_type ≡ true) × (h ≡ handler_of start end h.handler h.catch_type)))
     (λ end h. to_be_bytes w16 h.handler ++ to_be_bytes w16 h.catch_type) (λ h. h.end) u2_reads
-    (λ end b. bind_reads u2_at (λ n. n < 2 ^ 16) (to_be_bytes w16) (λ handler. bind (index_at (is_caught pool)) (λ caught end' bytes. Ok (handler_of start end handler caught, bytes)))
-    (λ handler h. (is_caught pool h.catch_type ≡ true) × (h ≡ handler_of start end handler h.catch_type))
+    (λ end b. bind_reads u2_at (λ n. n < 2 ^ 16) (to_be_bytes w16) (λ handler. bind (index_at (leads_to_caught pool)) (λ caught end' bytes. Ok (handler_of start end handler caught, bytes)))
+    (λ handler h. (leads_to_caught pool h.catch_type ≡ true) × (h ≡ handler_of start end handler h.catch_type))
     (λ handler h. to_be_bytes w16 h.catch_type) (λ h. h.handler) u2_reads
-    (λ handler c. made_reads (index_at (is_caught pool)) (λ n. is_caught pool n ≡ true) (to_be_bytes w16) (handler_of start end handler) (λ h. h.catch_type) (λ n. refl) (caught_reads pool few))
+    (λ handler c. made_reads (index_at (leads_to_caught pool)) (λ n. leads_to_caught pool n ≡ true) (to_be_bytes w16) (handler_of start end handler) (λ h. h.catch_type) (λ n. refl) (caught_reads pool few))
     (λ handler h q. ap (λ (x : Handler). x.handler) q.1))
     (λ end h q. ap (λ (x : Handler). x.end) q.1.1))
     (λ start h q. ap (λ (x : Handler). x.start) q.1.1.1))
@@ -98,8 +98,8 @@ bytes_all (b ∷ bytes) are = (are 0, bytes_all bytes (λ i. are (suc i)))
 
 -- ---- names
 
-text_is : (pool : Pool) (name : ℕ) (test : List ℕ → Bool) → is_text pool name ≡ true → is_some_that test (text_at pool name) ≡ test (text_of pool name)
-unfolding is_text
+text_is : (pool : Pool) (name : ℕ) (test : List ℕ → Bool) → leads_to_text pool name ≡ true → is_some_that test (text_at pool name) ≡ test (text_or_empty pool name)
+unfolding leads_to_text
 text_is pool name test named = go (text_at pool name) named
   where
     go : (found : Option (List ℕ)) → is_some found ≡ true → is_some_that test found ≡ test (unwrap_or found [])
@@ -113,9 +113,9 @@ another a b text e f n =
     let two = (bytes_eq-Decides b text).0 f in
     absurd (let h : true ≡ false = sym ((bytes_eq-Decides a b).1 (one ∙ sym two)) ∙ n in cc)
 
-module _ (pool : Pool) (few : IsFew pool) (name : ℕ) (named : is_text pool name ≡ true) where
+module _ (pool : Pool) (few : IsFew pool) (name : ℕ) (named : leads_to_text pool name ≡ true) where
   abbrev pub text : List ℕ
-  text = text_of pool name
+  text = text_or_empty pool name
 
   pub is_named_by : (a : List ℕ) → is_named pool a name ≡ bytes_eq a text
   unfolding is_named
@@ -215,18 +215,18 @@ module _ (pool : Pool) (few : IsFew pool) (name : ℕ) (named : is_text pool nam
       from (Attribute-F.Annotations n list) q = is_no_named (codes "BootstrapMethods") (codes "RuntimeVisibleAnnotations") n e refl q.0 q.1.0
       from _ q = absurd q.1
 
-  values_read : (descriptor : List ℕ) → Reads (index_at (leads_to_value pool descriptor)) (λ n. leads_to_value pool descriptor n ≡ true) (to_be_bytes w16)
-  unfolding leads_to_value
-  values_read descriptor = index_reads (leads_to_value pool descriptor) (λ n e. numbered pool n few (some_that (is_value_for descriptor) (constant_at pool n) e))
+  values_read : (descriptor : List ℕ) → Reads (index_at (leads_to_value_for pool descriptor)) (λ n. leads_to_value_for pool descriptor n ≡ true) (to_be_bytes w16)
+  unfolding leads_to_value_for
+  values_read descriptor = index_reads (leads_to_value_for pool descriptor) (λ n e. numbered pool n few (some_that (is_value_for descriptor) (constant_at pool n) e))
 
   pub constant_values : (Inner : List Attribute → Type 0) (inner : Attribute → List ℕ) (d : List ℕ) → bytes_eq (codes "ConstantValue") text ≡ true
       → Reads (constant_value_at pool d name) (λ a. Q Inner (in_field d) (out-Attribute a)) (λ a. spelling.content_by inner (out-Attribute a))
-  unfolding constant_value_at spelling.content_by value_of leads_to_value
+  unfolding constant_value_at spelling.content_by value_of leads_to_value_for
   constant_values Inner inner d e =
-      layer_reads roll-Attribute out-Attribute out-roll-Attribute roll-out-Attribute (index_at (leads_to_value pool d)) (λ n. leads_to_value pool d n ≡ true) (to_be_bytes w16) (Attribute-F.ConstantValue name) value_of (λ x. refl) (Q Inner (in_field d)) (spelling.content_by inner)
+      layer_reads roll-Attribute out-Attribute out-roll-Attribute roll-out-Attribute (index_at (leads_to_value_for pool d)) (λ n. leads_to_value_for pool d n ≡ true) (to_be_bytes w16) (Attribute-F.ConstantValue name) value_of (λ x. refl) (Q Inner (in_field d)) (spelling.content_by inner)
       (values_read d) (λ n p. (refl, (is_named_by (codes "ConstantValue") ∙ e, p))) from (λ n p. refl)
     where
-      from : (l : AttributeLayer) → Q Inner (in_field d) l → (leads_to_value pool d (value_of l) ≡ true) × (l ≡ Attribute-F.ConstantValue name (value_of l))
+      from : (l : AttributeLayer) → Q Inner (in_field d) l → (leads_to_value_for pool d (value_of l) ≡ true) × (l ≡ Attribute-F.ConstantValue name (value_of l))
       from (Attribute-F.ConstantValue n value) q = (q.1.1, ap (λ (m : ℕ). Attribute-F.ConstantValue m value) q.0)
       from (Attribute-F.Other n bytes) q = is_no_other (in_field d) n bytes (own_known (in_field d) e) q.0 q.1
       from (Attribute-F.Annotations n list) q = is_no_named (codes "ConstantValue") (codes "RuntimeVisibleAnnotations") n e refl q.0 q.1.0

@@ -13,9 +13,9 @@ use Rattle.class_model.specs.Attributes.{Place, in_class, in_field, in_method, i
 use Rattle.class_model.specs.Spelling.{greatest_depth}
 use Rattle.class_text.specs.Reading.{bad_tag, bad_attribute, bad_length, barred_code, too_deep, second_attribute, IsBytes}
 use Rattle.class_text.specs.Readers.{Reader, u1_at, u2_at, u4_at, index_at, many_at, counted_at, run_at, within}
-use Rattle.class_text.specs.Frames.{is_class, type_of, typed_at, frame_type_at, frame_of, with_item_at, with_locals_at, full_at, behind_delta_at, framed_at, frame_at}
-use Rattle.class_text.specs.Elements.{is_text, is_type, is_result, is_value, is_constant_tag, pair_by, note_by, enum_at, tagged_by, element_at, note_at}
-use Rattle.class_text.specs.Attributes.{text_of, is_first, is_caught, handler_at, leads_to_handle, leads_to_loadable, bootstrap_at, other_at, stack_map_at, leads_to_value, constant_value_at, bootstraps_at, annotations_at, code_content_at, named_at, attribute_by, code_attribute_at, code_attributes_at, code_bytes_at, code_at, own_name, own_content_at, content_at, attribute_at, attributes_at}
+use Rattle.class_text.specs.Frames.{leads_to_class, frame_type_of, typed_at, frame_type_at, frame_of, with_item_at, with_locals_at, full_at, behind_delta_at, framed_at, frame_at}
+use Rattle.class_text.specs.Elements.{leads_to_text, leads_to_type, leads_to_result, leads_to_value_of, is_constant_tag, pair_by, note_by, enum_at, tagged_by, element_at, note_at}
+use Rattle.class_text.specs.Attributes.{text_or_empty, is_first, leads_to_caught, handler_at, leads_to_handle, leads_to_loadable, bootstrap_at, other_at, stack_map_at, leads_to_value_for, constant_value_at, bootstraps_at, annotations_at, code_content_at, named_at, attribute_by, code_attribute_at, code_attributes_at, code_bytes_at, code_at, own_name, own_content_at, content_at, attribute_at, attributes_at}
 use Rattle.class_text.proofs.Numbers.{ok_is}
 use Rattle.class_text.proofs.Readers.{bind}
 use Rattle.class_text.proofs.Steps.{class_type, new_type, not_chop, not_far_item, not_item, not_same, constant_value, class_value, note_value, array_value, not_note, not_class, not_enum, not_constant, judged, handler_of, handler_caught, handler_start, handler_stop, code_made, code_inner, code_table, code_run, code_locals}
@@ -30,11 +30,11 @@ tag_before at tag = fail_inside (suc at) 0 (bad_tag at tag) (λ end over. over)
 typed_inside : (pool : Pool) (at tag : ℕ) → Inside (suc at) 0 (typed_at pool at tag)
 unfolding typed_at
 typed_inside pool at tag =
-    either_inside (suc at) 0 (ltb tag 7) (λ end bytes. Ok (type_of tag 0, bytes)) (λ end bytes. cond (eqb tag 7) (class_type pool tag end bytes) (cond (eqb tag 8) (new_type tag end bytes) (Err (bad_tag at tag))))
-    (give_inside (suc at) (type_of tag 0))
+    either_inside (suc at) 0 (ltb tag 7) (λ end bytes. Ok (frame_type_of tag 0, bytes)) (λ end bytes. cond (eqb tag 7) (class_type pool tag end bytes) (cond (eqb tag 8) (new_type tag end bytes) (Err (bad_tag at tag))))
+    (give_inside (suc at) (frame_type_of tag 0))
     (either_inside (suc at) 0 (eqb tag 7) (class_type pool tag) (λ end bytes. cond (eqb tag 8) (new_type tag end bytes) (Err (bad_tag at tag)))
-    (less_inside (made_inside (suc at) 2 (index_at (is_class pool)) (type_of tag) (index_inside (is_class pool) (suc at))))
-    (either_inside (suc at) 0 (eqb tag 8) (new_type tag) (λ end bytes. Err (bad_tag at tag)) (less_inside (made_inside (suc at) 2 u2_at (type_of tag) (u2_inside (suc at)))) (tag_before at tag)))
+    (less_inside (made_inside (suc at) 2 (index_at (leads_to_class pool)) (frame_type_of tag) (index_inside (leads_to_class pool) (suc at))))
+    (either_inside (suc at) 0 (eqb tag 8) (new_type tag) (λ end bytes. Err (bad_tag at tag)) (less_inside (made_inside (suc at) 2 u2_at (frame_type_of tag) (u2_inside (suc at)))) (tag_before at tag)))
 
 frame_type_inside : (pool : Pool) (low : ℕ) → Inside low 0 (frame_type_at pool)
 unfolding frame_type_at
@@ -85,27 +85,27 @@ module _ (pool : Pool) (low : ℕ) (value : Reader Element) (values : Inside low
   pair_inside : Inside low 0 (pair_by value pool)
   unfolding pair_by
   pair_inside =
-      less_inside (then_inside low 2 (index_at (is_text pool)) (λ name. bind value (λ v end bytes. Ok (roll-Pair (record { name = name; value = v }), bytes))) (index_inside (is_text pool) low)
+      less_inside (then_inside low 2 (index_at (leads_to_text pool)) (λ name. bind value (λ v end bytes. Ok (roll-Pair (record { name = name; value = v }), bytes))) (index_inside (leads_to_text pool) low)
       (λ name. made_inside low 0 value (λ v. roll-Pair (record { name = name; value = v })) values))
 
   note_inside : Inside low 0 (note_by value pool)
   unfolding note_by
   note_inside =
-      less_inside (then_inside low 2 (index_at (is_type pool)) (λ kind. bind (counted_at (pair_by value pool)) (λ pairs end bytes. Ok (roll-Note (record { kind = kind; pairs = pairs }), bytes))) (index_inside (is_type pool) low)
+      less_inside (then_inside low 2 (index_at (leads_to_type pool)) (λ kind. bind (counted_at (pair_by value pool)) (λ pairs end bytes. Ok (roll-Note (record { kind = kind; pairs = pairs }), bytes))) (index_inside (leads_to_type pool) low)
       (λ kind. made_inside low 0 (counted_at (pair_by value pool)) (λ pairs. roll-Note (record { kind = kind; pairs = pairs })) (each_inside low 0 (pair_by value pool) pair_inside)))
 
   enum_inside : Inside low 0 (enum_at pool)
   unfolding enum_at
   enum_inside =
-      less_inside (then_inside low 2 (index_at (is_type pool)) (λ kind. bind (index_at (is_text pool)) (λ name end bytes. Ok (roll-Element (Element-F.Enum kind name), bytes))) (index_inside (is_type pool) low)
-      (λ kind. less_inside (made_inside low 2 (index_at (is_text pool)) (λ name. roll-Element (Element-F.Enum kind name)) (index_inside (is_text pool) low))))
+      less_inside (then_inside low 2 (index_at (leads_to_type pool)) (λ kind. bind (index_at (leads_to_text pool)) (λ name end bytes. Ok (roll-Element (Element-F.Enum kind name), bytes))) (index_inside (leads_to_type pool) low)
+      (λ kind. less_inside (made_inside low 2 (index_at (leads_to_text pool)) (λ name. roll-Element (Element-F.Enum kind name)) (index_inside (leads_to_text pool) low))))
 
   tagged_inside : (at tag : ℕ) → suc at ≤ low → Inside low 0 (tagged_by value pool at tag)
   unfolding tagged_by
   tagged_inside at tag under =
-      either_inside low 0 (is_constant_tag tag) (constant_value pool tag) (not_constant pool value at tag) (less_inside (made_inside low 2 (index_at (is_value pool tag)) (λ n. roll-Element (Element-F.Const tag n)) (index_inside (is_value pool tag) low)))
+      either_inside low 0 (is_constant_tag tag) (constant_value pool tag) (not_constant pool value at tag) (less_inside (made_inside low 2 (index_at (leads_to_value_of pool tag)) (λ n. roll-Element (Element-F.Const tag n)) (index_inside (leads_to_value_of pool tag) low)))
       (either_inside low 0 (eqb tag (byte "e")) (enum_at pool) (not_enum pool value at tag) enum_inside
-      (either_inside low 0 (eqb tag (byte "c")) (class_value pool) (not_class pool value at tag) (less_inside (made_inside low 2 (index_at (is_result pool)) (λ n. roll-Element (Element-F.OfClass n)) (index_inside (is_result pool) low)))
+      (either_inside low 0 (eqb tag (byte "c")) (class_value pool) (not_class pool value at tag) (less_inside (made_inside low 2 (index_at (leads_to_result pool)) (λ n. roll-Element (Element-F.OfClass n)) (index_inside (leads_to_result pool) low)))
       (either_inside low 0 (eqb tag (byte "@")) (note_value pool value) (not_note pool value at tag) (made_inside low 0 (note_by value pool) (λ n. roll-Element (Element-F.Nested n)) note_inside)
       (either_inside low 0 (eqb tag (byte "[")) (array_value value) (λ end bytes. Err (bad_tag at tag)) (made_inside low 0 (counted_at value) (λ vs. roll-Element (Element-F.Many vs)) (each_inside low 0 value values))
       (raise_inside (suc at) 0 low 0 (λ end bytes. Err (bad_tag at tag)) under (omega arith) (tag_before at tag))))))
@@ -129,7 +129,7 @@ handler_inside pool low =
     less_inside (then_inside low 2 u2_at (handler_stop pool) (u2_inside low)
     (λ start. less_inside (then_inside low 2 u2_at (handler_start pool start) (u2_inside low)
     (λ stop. less_inside (then_inside low 2 u2_at (handler_caught pool start stop) (u2_inside low)
-    (λ handler. less_inside (made_inside low 2 (index_at (is_caught pool)) (handler_of start stop handler) (index_inside (is_caught pool) low))))))))
+    (λ handler. less_inside (made_inside low 2 (index_at (leads_to_caught pool)) (handler_of start stop handler) (index_inside (leads_to_caught pool) low))))))))
 
 bootstrap_inside : (pool : Pool) (low : ℕ) → Inside low 0 (bootstrap_at pool)
 unfolding bootstrap_at
@@ -157,7 +157,7 @@ module _ (pool : Pool) (name at : ℕ) where
   pub constant_value_inside : (descriptor : List ℕ) → Inside (suc at) 0 (constant_value_at pool descriptor name)
   unfolding constant_value_at
   constant_value_inside descriptor =
-      less_inside (made_inside (suc at) 2 (index_at (leads_to_value pool descriptor)) (λ value. roll-Attribute (Attribute-F.ConstantValue name value)) (index_inside (leads_to_value pool descriptor) (suc at)))
+      less_inside (made_inside (suc at) 2 (index_at (leads_to_value_for pool descriptor)) (λ value. roll-Attribute (Attribute-F.ConstantValue name value)) (index_inside (leads_to_value_for pool descriptor) (suc at)))
 
   pub bootstraps_inside : Inside (suc at) 0 (bootstraps_at pool name)
   unfolding bootstraps_at
@@ -169,20 +169,20 @@ module _ (pool : Pool) (name at : ℕ) where
 
   pub code_content_inside : Inside (suc at) 0 (code_content_at pool name at)
   unfolding code_content_at
-  code_content_inside = either_inside (suc at) 0 (bytes_eq (codes "StackMapTable") (text_of pool name)) (stack_map_at pool name) (other_at name) stack_map_inside (other_inside name (suc at))
+  code_content_inside = either_inside (suc at) 0 (bytes_eq (codes "StackMapTable") (text_or_empty pool name)) (stack_map_at pool name) (other_at name) stack_map_inside (other_inside name (suc at))
 
 -- ---- attributes
 
 module _ (pool : Pool) (stand : Place) (barred : Bool) (before : List Attribute) (low : ℕ) where
   judged_inside : (at n : ℕ) → Inside (suc at) 0 (judged pool stand barred before at n)
   judged_inside at n =
-      either_inside (suc at) 0 (is_first (is_known stand) bytes_eq (map (attribute_name pool) before) (text_of pool n)) (λ end bytes. cond (barred && bytes_eq (codes "Code") (text_of pool n)) (Err (bad_attribute at barred_code)) (Ok (n, bytes))) (λ end bytes. Err (second_attribute at))
-      (either_inside (suc at) 0 (barred && bytes_eq (codes "Code") (text_of pool n)) (λ end bytes. Err (bad_attribute at barred_code)) (λ end bytes. Ok (n, bytes)) (fail_inside (suc at) 0 (bad_attribute at barred_code) (λ end over. over)) (give_inside (suc at) n))
+      either_inside (suc at) 0 (is_first (is_known stand) bytes_eq (map (attribute_name pool) before) (text_or_empty pool n)) (λ end bytes. cond (barred && bytes_eq (codes "Code") (text_or_empty pool n)) (Err (bad_attribute at barred_code)) (Ok (n, bytes))) (λ end bytes. Err (second_attribute at))
+      (either_inside (suc at) 0 (barred && bytes_eq (codes "Code") (text_or_empty pool n)) (λ end bytes. Err (bad_attribute at barred_code)) (λ end bytes. Ok (n, bytes)) (fail_inside (suc at) 0 (bad_attribute at barred_code) (λ end over. over)) (give_inside (suc at) n))
       (fail_inside (suc at) 0 (second_attribute at) (λ end over. over))
 
   pub named_inside : Inside low 2 (named_at pool stand barred before)
   unfolding named_at
-  named_inside = here_inside low 2 (index_at (is_text pool)) (judged pool stand barred before) (omega arith) (index_inside (is_text pool) low) (λ at up n. judged_inside at n)
+  named_inside = here_inside low 2 (index_at (leads_to_text pool)) (judged pool stand barred before) (omega arith) (index_inside (leads_to_text pool) low) (λ at up n. judged_inside at n)
 
   pub attribute_inside : (content : ℕ → ℕ → Reader Attribute) → ((name at : ℕ) → Inside (suc at) 0 (content name at)) → Inside low 0 (attribute_by content pool stand barred before)
   unfolding attribute_by
@@ -218,9 +218,9 @@ own_inside pool in_code name at = stack_map_inside pool name at
 pub content_inside : (pool : Pool) (stand : Place) (name at : ℕ) → Inside (suc at) 0 (content_at pool stand name at)
 unfolding content_at
 content_inside pool stand name at =
-    either_inside (suc at) 0 (bytes_eq (own_name stand) (text_of pool name)) (own_content_at pool stand name at) (λ end bytes. cond (is_known stand (text_of pool name)) (annotations_at pool name at end bytes) (other_at name end bytes))
+    either_inside (suc at) 0 (bytes_eq (own_name stand) (text_or_empty pool name)) (own_content_at pool stand name at) (λ end bytes. cond (is_known stand (text_or_empty pool name)) (annotations_at pool name at end bytes) (other_at name end bytes))
     (own_inside pool stand name at)
-    (either_inside (suc at) 0 (is_known stand (text_of pool name)) (annotations_at pool name at) (other_at name) (annotations_inside pool name at) (other_inside name (suc at)))
+    (either_inside (suc at) 0 (is_known stand (text_or_empty pool name)) (annotations_at pool name at) (other_at name) (annotations_inside pool name at) (other_inside name (suc at)))
 
 pub attributes_inside : (pool : Pool) (stand : Place) (barred : Bool) (low : ℕ) → Inside low 0 (attributes_at pool stand barred)
 unfolding attributes_at attribute_at

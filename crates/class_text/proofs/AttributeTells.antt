@@ -17,9 +17,9 @@ use Rattle.class_model.specs.Spelling as spelling
 use Rattle.class_model.specs.Spelling.{greatest_depth}
 use Rattle.class_text.specs.Reading.{Fault, cut_short, bad_tag, bad_attribute, bad_length, barred_code, too_deep, second_attribute, place}
 use Rattle.class_text.specs.Readers.{Reader, u1_at, u2_at, u4_at, index_at, many_at, counted_at, run_at, within}
-use Rattle.class_text.specs.Frames.{is_class, type_of, typed_at, frame_type_at, frame_of, with_item_at, with_locals_at, full_at, behind_delta_at, framed_at, frame_at}
-use Rattle.class_text.specs.Elements.{is_text, is_type, is_result, is_value, is_constant_tag, pair_by, note_by, enum_at, tagged_by, element_at, note_at}
-use Rattle.class_text.specs.Attributes.{text_of, is_first, is_caught, handler_at, leads_to_handle, leads_to_loadable, bootstrap_at, other_at, stack_map_at, leads_to_value, constant_value_at, bootstraps_at, annotations_at, code_content_at, named_at, attribute_by, code_attribute_at, code_attributes_at, code_bytes_at, code_at, own_name, own_content_at, content_at, attribute_at, attributes_at}
+use Rattle.class_text.specs.Frames.{leads_to_class, frame_type_of, typed_at, frame_type_at, frame_of, with_item_at, with_locals_at, full_at, behind_delta_at, framed_at, frame_at}
+use Rattle.class_text.specs.Elements.{leads_to_text, leads_to_type, leads_to_result, leads_to_value_of, is_constant_tag, pair_by, note_by, enum_at, tagged_by, element_at, note_at}
+use Rattle.class_text.specs.Attributes.{text_or_empty, is_first, leads_to_caught, handler_at, leads_to_handle, leads_to_loadable, bootstrap_at, other_at, stack_map_at, leads_to_value_for, constant_value_at, bootstraps_at, annotations_at, code_content_at, named_at, attribute_by, code_attribute_at, code_attributes_at, code_bytes_at, code_at, own_name, own_content_at, content_at, attribute_at, attributes_at}
 use Rattle.class_text.specs.Meanings.{StandsAt, Wanted, a_text, a_type, a_result, a_value, a_class, a_caught_class, a_handle, a_loadable_constant, a_field_value, leads, IsNameAt, IsMeantBehind}
 use Rattle.class_text.proofs.Numbers.{ok_is}
 use Rattle.class_text.proofs.Readers.{Reads, bind}
@@ -71,11 +71,11 @@ module _ (pool : Pool) (file : List ℕ) (start : ℕ) where
   typed_tells : (at tag : ℕ) → IsTag at tag → Tells file start Meant (typed_at pool at tag)
   unfolding typed_at
   typed_tells at tag stood =
-      either_tells file start Meant (ltb tag 7) (λ end bytes. Ok (type_of tag 0, bytes)) (λ end bytes. cond (eqb tag 7) (class_type pool tag end bytes) (cond (eqb tag 8) (new_type tag end bytes) (Err (bad_tag at tag))))
-      (λ y. give_tells file start Meant (type_of tag 0))
+      either_tells file start Meant (ltb tag 7) (λ end bytes. Ok (frame_type_of tag 0, bytes)) (λ end bytes. cond (eqb tag 7) (class_type pool tag end bytes) (cond (eqb tag 8) (new_type tag end bytes) (Err (bad_tag at tag))))
+      (λ y. give_tells file start Meant (frame_type_of tag 0))
       (λ n. either_tells file start Meant (eqb tag 7) (class_type pool tag) (λ end bytes. cond (eqb tag 8) (new_type tag end bytes) (Err (bad_tag at tag)))
-      (λ y. made_tells file start Meant (index_at (is_class pool)) (type_of tag) (wanted_tells a_class))
-      (λ m. either_tells file start Meant (eqb tag 8) (new_type tag) (λ end bytes. Err (bad_tag at tag)) (λ y. made_tells file start Meant u2_at (type_of tag) number_tells) (λ o. no_tag at tag stood)))
+      (λ y. made_tells file start Meant (index_at (leads_to_class pool)) (frame_type_of tag) (wanted_tells a_class))
+      (λ m. either_tells file start Meant (eqb tag 8) (new_type tag) (λ end bytes. Err (bad_tag at tag)) (λ y. made_tells file start Meant u2_at (frame_type_of tag) number_tells) (λ o. no_tag at tag stood)))
 
   -- what stands behind a tag
   tagged : {A : Type 0} (next : ℕ → ℕ → Reader A) → ((at tag : ℕ) → IsTag at tag → Tells file start Meant (next at tag)) → Tells file start Meant (λ end bytes. bind u1_at (next (place end bytes)) end bytes)
@@ -130,37 +130,37 @@ module _ (pool : Pool) (file : List ℕ) (start : ℕ) where
     pair_tells : Tells file start Meant (pair_by value pool)
     unfolding pair_by
     pair_tells =
-        then_tells file start Meant (index_at (is_text pool)) (λ name. bind value (λ v end bytes. Ok (roll-Pair (record { name = name; value = v }), bytes))) (wanted_tells a_text)
+        then_tells file start Meant (index_at (leads_to_text pool)) (λ name. bind value (λ v end bytes. Ok (roll-Pair (record { name = name; value = v }), bytes))) (wanted_tells a_text)
         (λ name. made_tells file start Meant value (λ v. roll-Pair (record { name = name; value = v })) values)
 
     note_tells : Tells file start Meant (note_by value pool)
     unfolding note_by
     note_tells =
-        then_tells file start Meant (index_at (is_type pool)) (λ kind. bind (counted_at (pair_by value pool)) (λ pairs end bytes. Ok (roll-Note (record { kind = kind; pairs = pairs }), bytes))) (wanted_tells a_type)
+        then_tells file start Meant (index_at (leads_to_type pool)) (λ kind. bind (counted_at (pair_by value pool)) (λ pairs end bytes. Ok (roll-Note (record { kind = kind; pairs = pairs }), bytes))) (wanted_tells a_type)
         (λ kind. made_tells file start Meant (counted_at (pair_by value pool)) (λ pairs. roll-Note (record { kind = kind; pairs = pairs })) (each_tells file start Meant cuts (pair_by value pool) pair_tells))
 
     enum_tells : Tells file start Meant (enum_at pool)
     unfolding enum_at
     enum_tells =
-        then_tells file start Meant (index_at (is_type pool)) (λ kind. bind (index_at (is_text pool)) (λ name end bytes. Ok (roll-Element (Element-F.Enum kind name), bytes))) (wanted_tells a_type)
-        (λ kind. made_tells file start Meant (index_at (is_text pool)) (λ name. roll-Element (Element-F.Enum kind name)) (wanted_tells a_text))
+        then_tells file start Meant (index_at (leads_to_type pool)) (λ kind. bind (index_at (leads_to_text pool)) (λ name end bytes. Ok (roll-Element (Element-F.Enum kind name), bytes))) (wanted_tells a_type)
+        (λ kind. made_tells file start Meant (index_at (leads_to_text pool)) (λ name. roll-Element (Element-F.Enum kind name)) (wanted_tells a_text))
 
     tagged_tells : (at tag : ℕ) → IsTag at tag → Tells file start Meant (tagged_by value pool at tag)
     unfolding tagged_by
     tagged_tells at tag stood =
-        either_tells file start Meant (is_constant_tag tag) (constant_value pool tag) (not_constant pool value at tag) (λ y. made_tells file start Meant (index_at (is_value pool tag)) (λ n. roll-Element (Element-F.Const tag n)) (wanted_tells (a_value tag)))
+        either_tells file start Meant (is_constant_tag tag) (constant_value pool tag) (not_constant pool value at tag) (λ y. made_tells file start Meant (index_at (leads_to_value_of pool tag)) (λ n. roll-Element (Element-F.Const tag n)) (wanted_tells (a_value tag)))
         (λ n. either_tells file start Meant (eqb tag (byte "e")) (enum_at pool) (not_enum pool value at tag) (λ y. enum_tells)
-        (λ m. either_tells file start Meant (eqb tag (byte "c")) (class_value pool) (not_class pool value at tag) (λ y. made_tells file start Meant (index_at (is_result pool)) (λ n. roll-Element (Element-F.OfClass n)) (wanted_tells a_result))
+        (λ m. either_tells file start Meant (eqb tag (byte "c")) (class_value pool) (not_class pool value at tag) (λ y. made_tells file start Meant (index_at (leads_to_result pool)) (λ n. roll-Element (Element-F.OfClass n)) (wanted_tells a_result))
         (λ o. either_tells file start Meant (eqb tag (byte "@")) (note_value pool value) (not_note pool value at tag) (λ y. made_tells file start Meant (note_by value pool) (λ n. roll-Element (Element-F.Nested n)) note_tells)
         (λ p. either_tells file start Meant (eqb tag (byte "[")) (array_value value) (λ end bytes. Err (bad_tag at tag)) (λ y. made_tells file start Meant (counted_at value) (λ vs. roll-Element (Element-F.Many vs)) (each_tells file start Meant cuts value values))
         (λ q. no_tag at tag stood)))))
 
-  element_tells : (at name : ℕ) → IsNameAt pool file start at name → text_of pool name ≡ codes "RuntimeVisibleAnnotations" → (depth : ℕ) → Tells file start Meant (element_at at pool depth)
+  element_tells : (at name : ℕ) → IsNameAt pool file start at name → text_or_empty pool name ≡ codes "RuntimeVisibleAnnotations" → (depth : ℕ) → Tells file start Meant (element_at at pool depth)
   unfolding element_at
   element_tells at name named text zero = fail_tells file start Meant (bad_attribute at too_deep) (λ end. record { name = name; named = named; reason = text })
   element_tells at name named text (suc depth) = tagged (tagged_by (element_at at pool depth) pool) (λ place tag stood. tagged_tells (element_at at pool depth) (element_tells at name named text depth) place tag stood)
 
-  annotation_tells : (at name : ℕ) → IsNameAt pool file start at name → text_of pool name ≡ codes "RuntimeVisibleAnnotations" → Tells file start Meant (note_at at pool)
+  annotation_tells : (at name : ℕ) → IsNameAt pool file start at name → text_or_empty pool name ≡ codes "RuntimeVisibleAnnotations" → Tells file start Meant (note_at at pool)
   unfolding note_at
   annotation_tells at name named text = note_tells (element_at at pool greatest_depth) (element_tells at name named text greatest_depth)
 
@@ -172,7 +172,7 @@ module _ (pool : Pool) (file : List ℕ) (start : ℕ) where
       then_tells file start Meant u2_at (handler_stop pool) number_tells
       (λ first. then_tells file start Meant u2_at (handler_start pool first) number_tells
       (λ stop. then_tells file start Meant u2_at (handler_caught pool first stop) number_tells
-      (λ handler. made_tells file start Meant (index_at (is_caught pool)) (handler_of first stop handler) (wanted_tells a_caught_class))))
+      (λ handler. made_tells file start Meant (index_at (leads_to_caught pool)) (handler_of first stop handler) (wanted_tells a_caught_class))))
 
   bootstrap_tells : Tells file start Meant (bootstrap_at pool)
   unfolding bootstrap_at
@@ -199,19 +199,19 @@ module _ (pool : Pool) (file : List ℕ) (start : ℕ) where
 
     constant_value_tells : (descriptor : List ℕ) → Tells file start Meant (constant_value_at pool descriptor name)
     unfolding constant_value_at
-    constant_value_tells descriptor = made_tells file start Meant (index_at (leads_to_value pool descriptor)) (λ value. roll-Attribute (Attribute-F.ConstantValue name value)) (wanted_tells (a_field_value descriptor))
+    constant_value_tells descriptor = made_tells file start Meant (index_at (leads_to_value_for pool descriptor)) (λ value. roll-Attribute (Attribute-F.ConstantValue name value)) (wanted_tells (a_field_value descriptor))
 
     bootstraps_tells : Tells file start Meant (bootstraps_at pool name)
     unfolding bootstraps_at
     bootstraps_tells = made_tells file start Meant (counted_at (bootstrap_at pool)) (λ entries. roll-Attribute (Attribute-F.Bootstrap name entries)) (each_tells file start Meant cuts (bootstrap_at pool) bootstrap_tells)
 
-    annotations_tells : text_of pool name ≡ codes "RuntimeVisibleAnnotations" → Tells file start Meant (annotations_at pool name at)
+    annotations_tells : text_or_empty pool name ≡ codes "RuntimeVisibleAnnotations" → Tells file start Meant (annotations_at pool name at)
     unfolding annotations_at
     annotations_tells text = made_tells file start Meant (counted_at (note_at at pool)) (λ list. roll-Attribute (Attribute-F.Annotations name list)) (each_tells file start Meant cuts (note_at at pool) (annotation_tells at name named text))
 
     code_content_tells : Tells file start Meant (code_content_at pool name at)
     unfolding code_content_at
-    code_content_tells = either_tells file start Meant (bytes_eq (codes "StackMapTable") (text_of pool name)) (stack_map_at pool name) (other_at name) (λ y. stack_map_tells) (λ n. other_tells name)
+    code_content_tells = either_tells file start Meant (bytes_eq (codes "StackMapTable") (text_or_empty pool name)) (stack_map_at pool name) (other_at name) (λ y. stack_map_tells) (λ n. other_tells name)
 
   -- ---- attributes
 
@@ -231,20 +231,20 @@ module _ (pool : Pool) (file : List ℕ) (start : ℕ) where
     abbrev at : ℕ
     at = from + length text
 
-    judged_tells : (n : ℕ) → is_text pool n ≡ true → StandsAt file at (to_be_bytes w16 n) × (start ≤ at) → Behind (text ++ to_be_bytes w16 n) from (judged pool stand barred before at n)
+    judged_tells : (n : ℕ) → leads_to_text pool n ≡ true → StandsAt file at (to_be_bytes w16 n) × (start ≤ at) → Behind (text ++ to_be_bytes w16 n) from (judged pool stand barred before at n)
     judged_tells n named k =
-        either_behind file start Meant (text ++ to_be_bytes w16 n) from (is_first (is_known stand) bytes_eq (map (attribute_name pool) before) (text_of pool n)) (λ end bytes. cond (barred && bytes_eq (codes "Code") (text_of pool n)) (Err (bad_attribute at barred_code)) (Ok (n, bytes))) (λ end bytes. Err (second_attribute at))
-        (λ y. either_behind file start Meant (text ++ to_be_bytes w16 n) from (barred && bytes_eq (codes "Code") (text_of pool n)) (λ end bytes. Err (bad_attribute at barred_code)) (λ end bytes. Ok (n, bytes))
-        (λ c. fail_behind file start Meant (text ++ to_be_bytes w16 n) from (bad_attribute at barred_code) (λ end all low. record { name = n; named = record { stands = k.0; behind = k.1; text = named }; reason = is_same (codes "Code") (text_of pool n) (and_parts barred (bytes_eq (codes "Code") (text_of pool n)) c).1 })) (λ o. give_behind file start Meant (text ++ to_be_bytes w16 n) from n))
+        either_behind file start Meant (text ++ to_be_bytes w16 n) from (is_first (is_known stand) bytes_eq (map (attribute_name pool) before) (text_or_empty pool n)) (λ end bytes. cond (barred && bytes_eq (codes "Code") (text_or_empty pool n)) (Err (bad_attribute at barred_code)) (Ok (n, bytes))) (λ end bytes. Err (second_attribute at))
+        (λ y. either_behind file start Meant (text ++ to_be_bytes w16 n) from (barred && bytes_eq (codes "Code") (text_or_empty pool n)) (λ end bytes. Err (bad_attribute at barred_code)) (λ end bytes. Ok (n, bytes))
+        (λ c. fail_behind file start Meant (text ++ to_be_bytes w16 n) from (bad_attribute at barred_code) (λ end all low. record { name = n; named = record { stands = k.0; behind = k.1; text = named }; reason = is_same (codes "Code") (text_or_empty pool n) (and_parts barred (bytes_eq (codes "Code") (text_or_empty pool n)) c).1 })) (λ o. give_behind file start Meant (text ++ to_be_bytes w16 n) from n))
         (λ twice. fail_behind file start Meant (text ++ to_be_bytes w16 n) from (second_attribute at) (λ end all low. record { name = n; place = stand; before = before; from = from; text = text; spelled = spelled; stands = all; here = refl; behind = low; twice = twice }))
 
     named_tells : Behind text from (named_at pool stand barred before)
     unfolding named_at
     named_tells =
-        here_behind file start Meant text from (λ p. bind (index_at (is_text pool)) (judged pool stand barred before p))
-        (bind_behind file start Meant text from (index_at (is_text pool)) (λ n. is_text pool n ≡ true) (to_be_bytes w16) (judged pool stand barred before at) (text_reads pool few) (plain_behind file start Meant text from (index_at (is_text pool)) (wanted_tells a_text)) judged_tells)
+        here_behind file start Meant text from (λ p. bind (index_at (leads_to_text pool)) (judged pool stand barred before p))
+        (bind_behind file start Meant text from (index_at (leads_to_text pool)) (λ n. leads_to_text pool n ≡ true) (to_be_bytes w16) (judged pool stand barred before at) (text_reads pool few) (plain_behind file start Meant text from (index_at (leads_to_text pool)) (wanted_tells a_text)) judged_tells)
 
-    attribute_tells : (IsNamed : ℕ → Type 0) → Reads (named_at pool stand barred before) IsNamed (to_be_bytes w16) → ((name : ℕ) → IsNamed name → is_text pool name ≡ true)
+    attribute_tells : (IsNamed : ℕ → Type 0) → Reads (named_at pool stand barred before) IsNamed (to_be_bytes w16) → ((name : ℕ) → IsNamed name → leads_to_text pool name ≡ true)
         → (content : ℕ → ℕ → Reader Attribute) → ((name place : ℕ) → IsNameAt pool file start place name → Tells file start Meant (content name place)) → Behind text from (attribute_by content pool stand barred before)
     unfolding attribute_by
     attribute_tells IsNamed names named content contents =
@@ -257,7 +257,7 @@ module _ (pool : Pool) (file : List ℕ) (start : ℕ) where
 
   -- ---- code
 
-  code_bytes_tells : (at name : ℕ) → IsNameAt pool file start at name → text_of pool name ≡ codes "Code" → Tells file start Meant (code_bytes_at at)
+  code_bytes_tells : (at name : ℕ) → IsNameAt pool file start at name → text_or_empty pool name ≡ codes "Code" → Tells file start Meant (code_bytes_at at)
   unfolding code_bytes_at
   code_bytes_tells at name named text =
       here_tells file start Meant u4_at (λ n. n < 2 ^ 32) (to_be_bytes w32) (λ from len end bytes. cond (ltb 0 len && leb len 65535) (run_at len end bytes) (Err (bad_attribute at (bad_length len)))) u4_reads (u4_tells file start Meant cuts)
@@ -275,7 +275,7 @@ module _ (pool : Pool) (file : List ℕ) (start : ℕ) where
         (λ name p. p.0) (code_content_at pool) code_content_tells)
         (code_attributes_read pool few)
 
-    code_tells : (name at : ℕ) → IsNameAt pool file start at name → text_of pool name ≡ codes "Code" → Tells file start Meant (code_at pool name at)
+    code_tells : (name at : ℕ) → IsNameAt pool file start at name → text_or_empty pool name ≡ codes "Code" → Tells file start Meant (code_at pool name at)
     unfolding code_at
     code_tells name at there text =
         then_tells file start Meant u2_at (code_locals pool name at) number_tells
@@ -284,26 +284,26 @@ module _ (pool : Pool) (file : List ℕ) (start : ℕ) where
         (λ code. then_tells file start Meant (counted_at (handler_at pool)) (code_inner pool name at stack locals code) (each_tells file start Meant cuts (handler_at pool) handler_tells)
         (λ table. made_tells file start Meant (code_attributes_at pool) (code_made pool name at stack locals code table) code_attributes_tells))))
 
-    own_tells : (stand : Place) (name at : ℕ) → IsNameAt pool file start at name → text_of pool name ≡ own_name stand → Tells file start Meant (own_content_at pool stand name at)
+    own_tells : (stand : Place) (name at : ℕ) → IsNameAt pool file start at name → text_or_empty pool name ≡ own_name stand → Tells file start Meant (own_content_at pool stand name at)
     own_tells in_class name at there text = bootstraps_tells name at there
     own_tells (in_field descriptor) name at there text = constant_value_tells name at there descriptor
     own_tells in_method name at there text = code_tells name at there text
     own_tells in_code name at there text = stack_map_tells name at there
 
     -- a known name that isn't the place's own
-    annotations_text : (stand : Place) (name : ℕ) → is_text pool name ≡ true → bytes_eq (own_name stand) (text_of pool name) ≡ false → is_known stand (text_of pool name) ≡ true → text_of pool name ≡ codes "RuntimeVisibleAnnotations"
+    annotations_text : (stand : Place) (name : ℕ) → leads_to_text pool name ≡ true → bytes_eq (own_name stand) (text_or_empty pool name) ≡ false → is_known stand (text_or_empty pool name) ≡ true → text_or_empty pool name ≡ codes "RuntimeVisibleAnnotations"
     unfolding is_known
-    annotations_text in_class name named other known = is_same _ (text_of pool name) (left_known pool few name named (codes "BootstrapMethods") (codes "RuntimeVisibleAnnotations") known other)
-    annotations_text (in_field d) name named other known = is_same _ (text_of pool name) (left_known pool few name named (codes "ConstantValue") (codes "RuntimeVisibleAnnotations") known other)
-    annotations_text in_method name named other known = is_same _ (text_of pool name) (left_known pool few name named (codes "Code") (codes "RuntimeVisibleAnnotations") known other)
+    annotations_text in_class name named other known = is_same _ (text_or_empty pool name) (left_known pool few name named (codes "BootstrapMethods") (codes "RuntimeVisibleAnnotations") known other)
+    annotations_text (in_field d) name named other known = is_same _ (text_or_empty pool name) (left_known pool few name named (codes "ConstantValue") (codes "RuntimeVisibleAnnotations") known other)
+    annotations_text in_method name named other known = is_same _ (text_or_empty pool name) (left_known pool few name named (codes "Code") (codes "RuntimeVisibleAnnotations") known other)
     annotations_text in_code name named other known = absurd (none_left pool few name named (codes "StackMapTable") known other)
 
     content_tells : (stand : Place) (name at : ℕ) → IsNameAt pool file start at name → Tells file start Meant (content_at pool stand name at)
     unfolding content_at
     content_tells stand name at there =
-        either_tells file start Meant (bytes_eq (own_name stand) (text_of pool name)) (own_content_at pool stand name at) (λ end bytes. cond (is_known stand (text_of pool name)) (annotations_at pool name at end bytes) (other_at name end bytes))
-        (λ y. own_tells stand name at there (is_same (own_name stand) (text_of pool name) y))
-        (λ n. either_tells file start Meant (is_known stand (text_of pool name)) (annotations_at pool name at) (other_at name) (λ y. annotations_tells name at there (annotations_text stand name there.text n y)) (λ m. other_tells name))
+        either_tells file start Meant (bytes_eq (own_name stand) (text_or_empty pool name)) (own_content_at pool stand name at) (λ end bytes. cond (is_known stand (text_or_empty pool name)) (annotations_at pool name at end bytes) (other_at name end bytes))
+        (λ y. own_tells stand name at there (is_same (own_name stand) (text_or_empty pool name) y))
+        (λ n. either_tells file start Meant (is_known stand (text_or_empty pool name)) (annotations_at pool name at) (other_at name) (λ y. annotations_tells name at there (annotations_text stand name there.text n y)) (λ m. other_tells name))
 
     pub attributes_tells : (stand : Place) (barred : Bool) → Tells file start Meant (attributes_at pool stand barred)
     unfolding attributes_at attribute_at spelling.attribute

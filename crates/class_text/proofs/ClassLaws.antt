@@ -16,7 +16,7 @@ use Rattle.class_text.specs.Reading.{Fault, bad_magic, bad_major, bytes_left, is
 use Rattle.class_text.specs.Readers.{u2_at, u4_at, index_at, counted_at, counted_after}
 use Rattle.class_text.specs.Pool.{pool_at}
 use Rattle.class_text.specs.Attributes.{attributes_at}
-use Rattle.class_text.specs.Classes.{field_at, method_at, is_super, minor_at, major_at, behind_pool_at, class_at_front, class_of}
+use Rattle.class_text.specs.Classes.{field_at, method_at, leads_to_super, minor_at, major_at, behind_pool_at, class_at_front, class_of}
 use Rattle.class_text.proofs.Numbers.{bind_ok}
 use Rattle.class_text.proofs.Places.{Failed, first, later, bind_err}
 use Rattle.class_text.proofs.Pools.{pool_taken, pool_again}
@@ -64,9 +64,9 @@ module _ (minor major : ℕ) (pool : Pool) where
   unfolding is_plain_class
   class_numbers few = index_reads (is_plain_class pool) (λ n e. numbered_class pool n few (some_that is_class_name (class_at pool n) e))
 
-  pub super_numbers : IsFew pool → (this : ℕ) → Reads (index_at (is_super pool this)) (λ n. is_super pool this n ≡ true) (to_be_bytes w16)
-  unfolding is_super is_plain_class
-  super_numbers few this = index_reads (is_super pool this) low
+  pub super_numbers : IsFew pool → (this : ℕ) → Reads (index_at (leads_to_super pool this)) (λ n. leads_to_super pool this n ≡ true) (to_be_bytes w16)
+  unfolding leads_to_super is_plain_class
+  super_numbers few this = index_reads (leads_to_super pool this) low
     where
       low : (n : ℕ) → cond (eqb n 0) (bytes_eq (unwrap_or (class_at pool this) []) (codes "java/lang/Object")) (is_some_that is_class_name (class_at pool n)) ≡ true → n < 2 ^ 16
       low n e = elim (cases_Bool (eqb n 0)) [
@@ -90,7 +90,7 @@ module _ (minor major : ℕ) (pool : Pool) where
   C3 flags this above c = IsPlain c.interfaces × C4 flags this above c.interfaces c
 
   abbrev C2 : ℕ → ℕ → Class → Type 0
-  C2 flags this c = (is_super pool this c.super_class ≡ true) × C3 flags this c.super_class c
+  C2 flags this c = (leads_to_super pool this c.super_class ≡ true) × C3 flags this c.super_class c
 
   abbrev C1 : ℕ → Class → Type 0
   C1 flags c = (is_plain_class pool c.this_class ≡ true) × C2 flags c.this_class c
@@ -141,7 +141,7 @@ module _ (minor major : ℕ) (pool : Pool) where
 
   read2 : IsFew pool → (flags this : ℕ) → Reads (class_super minor major pool flags this) (C2 flags this) s2
   read2 few flags this =
-      bind_reads (index_at (is_super pool this)) (λ n. is_super pool this n ≡ true) (to_be_bytes w16) (class_interfaces minor major pool flags this) (C3 flags this) (λ n. s3) (λ c. c.super_class) (super_numbers few this)
+      bind_reads (index_at (leads_to_super pool this)) (λ n. leads_to_super pool this n ≡ true) (to_be_bytes w16) (class_interfaces minor major pool flags this) (C3 flags this) (λ n. s3) (λ c. c.super_class) (super_numbers few this)
       (λ n p. read3 few flags this n) (λ n c q. ap (λ (x : Class). x.super_class) q.1.1.1.1)
 
   read1 : IsFew pool → (flags : ℕ) → Reads (class_this minor major pool flags) (C1 flags) s1
@@ -197,13 +197,13 @@ front_spelled c =
     spelled_class (to_be_bytes w32 spelling.magic) (to_be_bytes w16 c.minor) (to_be_bytes w16 c.major) (spelling.pool c.pool) (to_be_bytes w16 c.flags) (to_be_bytes w16 c.this_class) (to_be_bytes w16 c.super_class) (spelling.counted (to_be_bytes w16) c.interfaces) (spelling.counted spelling.member c.fields) (spelling.counted spelling.member c.methods) (spelling.counted spelling.attribute c.attributes)
 
 shaped : (c : Class) → B c → Shaped c
-unfolding IsMajor is_super has_super class_name
+unfolding IsMajor leads_to_super has_super class_name
 shaped c p =
     let q = p.1.1.1 in
     record { minor = p.0; oldest = p.1.0.0; newest = p.1.0.1; pool = p.1.1.0; flags = q.0; this_class = q.1.0; super_class = q.1.1.0; interfaces = q.1.1.1.0; fields = q.1.1.1.1.0; methods = q.1.1.1.1.1.0; attributes = q.1.1.1.1.1.1.0 }
 
 parts : (c : Class) → Shaped c → B c
-unfolding IsMajor is_super has_super class_name
+unfolding IsMajor leads_to_super has_super class_name
 parts c s =
     (s.minor, ((s.oldest, s.newest), (s.pool, (s.flags, (s.this_class, (s.super_class, (s.interfaces, (s.fields, (s.methods, (s.attributes, refl))))))))))
 

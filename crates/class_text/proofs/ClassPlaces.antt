@@ -8,11 +8,11 @@ use Rattle.class_model.specs.declared.class_file.Member.{Member}
 use Rattle.class_model.specs.Attributes.{in_class, in_field, in_method}
 use Rattle.class_model.specs.Shape.{is_plain_class, has_code}
 use Rattle.class_model.specs.Spelling as spelling
-use Rattle.class_text.specs.Reading.{Fault, cut_short, bad_magic, bad_major, code_missing, bytes_left, place_of, is_cut, Reading, ◌>>=◌, place, IsBytes}
+use Rattle.class_text.specs.Reading.{Fault, cut_short, bad_magic, bad_major, code_missing, bytes_left, fault_place, is_cut, Reading, ◌>>=◌, place, IsBytes}
 use Rattle.class_text.specs.Readers.{u2_at, u4_at, index_at, counted_at, counted_after}
 use Rattle.class_text.specs.Pool.{pool_at}
-use Rattle.class_text.specs.Attributes.{text_of, attributes_at}
-use Rattle.class_text.specs.Classes.{is_field_name, is_name_of_method, is_field_type, is_method_type, is_barred, field_at, method_at, is_super, minor_at, major_at, behind_pool_at, class_at_front, class_of}
+use Rattle.class_text.specs.Attributes.{text_or_empty, attributes_at}
+use Rattle.class_text.specs.Classes.{leads_to_field_name, leads_to_method_name, leads_to_field_type, leads_to_method_type, is_barred, field_at, method_at, leads_to_super, minor_at, major_at, behind_pool_at, class_at_front, class_of}
 use Rattle.class_text.specs.Places.{IsOnlyCut, IsGoodBefore, IsWithin}
 use Rattle.class_text.proofs.Numbers.{IsBytes-take}
 use Rattle.class_text.proofs.Places.{Failed, first, later, bind_err, err_is}
@@ -30,16 +30,16 @@ module _ (pool : Pool) (before : List Member) (low : ℕ) where
   unfolding field_at
   field_inside =
       less_inside (then_inside low 2 u2_at (field_name pool before) (u2_inside low)
-      (λ flags. less_inside (then_inside low 2 (index_at (is_field_name pool)) (field_type pool before flags) (index_inside (is_field_name pool) low)
-      (λ name. less_inside (then_inside low 2 (index_at (is_field_type pool before name)) (field_attributes pool before flags name) (index_inside (is_field_type pool before name) low)
-      (λ descriptor. made_inside low 0 (attributes_at pool (in_field (text_of pool descriptor)) false) (member_of flags name descriptor) (attributes_inside pool (in_field (text_of pool descriptor)) false low)))))))
+      (λ flags. less_inside (then_inside low 2 (index_at (leads_to_field_name pool)) (field_type pool before flags) (index_inside (leads_to_field_name pool) low)
+      (λ name. less_inside (then_inside low 2 (index_at (leads_to_field_type pool before name)) (field_attributes pool before flags name) (index_inside (leads_to_field_type pool before name) low)
+      (λ descriptor. made_inside low 0 (attributes_at pool (in_field (text_or_empty pool descriptor)) false) (member_of flags name descriptor) (attributes_inside pool (in_field (text_or_empty pool descriptor)) false low)))))))
 
   method_inside : Inside low 0 (method_at pool before)
   unfolding method_at
   method_inside =
       less_inside (here_inside low 2 u2_at (method_name pool before) (omega arith) (u2_inside low)
-      (λ at up flags. less_inside (then_inside (suc at) 2 (index_at (is_name_of_method pool)) (method_type pool before at flags) (index_inside (is_name_of_method pool) (suc at))
-      (λ name. less_inside (then_inside (suc at) 2 (index_at (is_method_type pool before flags name)) (method_attributes pool before at flags name) (index_inside (is_method_type pool before flags name) (suc at))
+      (λ at up flags. less_inside (then_inside (suc at) 2 (index_at (leads_to_method_name pool)) (method_type pool before at flags) (index_inside (leads_to_method_name pool) (suc at))
+      (λ name. less_inside (then_inside (suc at) 2 (index_at (leads_to_method_type pool before flags name)) (method_attributes pool before at flags name) (index_inside (leads_to_method_type pool before flags name) (suc at))
       (λ descriptor. then_inside (suc at) 0 (attributes_at pool in_method (is_barred flags)) (method_code pool before at flags name descriptor) (attributes_inside pool in_method (is_barred flags) (suc at))
       (λ found. either_inside (suc at) 0 (is_barred flags || has_code found) (λ end bytes. Ok (member_of flags name descriptor found, bytes)) (λ end bytes. Err (code_missing at))
       (give_inside (suc at) (member_of flags name descriptor found)) (fail_inside (suc at) 0 (code_missing at) (λ end over. over)))))))))
@@ -64,7 +64,7 @@ module _ (minor major : ℕ) (pool : Pool) (low : ℕ) where
   behind_pool_inside =
       less_inside (then_inside low 2 u2_at (class_this minor major pool) (u2_inside low)
       (λ flags. less_inside (then_inside low 2 (index_at (is_plain_class pool)) (class_super minor major pool flags) (index_inside (is_plain_class pool) low)
-      (λ this. less_inside (then_inside low 2 (index_at (is_super pool this)) (class_interfaces minor major pool flags this) (index_inside (is_super pool this) low)
+      (λ this. less_inside (then_inside low 2 (index_at (leads_to_super pool this)) (class_interfaces minor major pool flags this) (index_inside (leads_to_super pool this) low)
       (λ above. then_inside low 0 (counted_at (index_at (is_plain_class pool))) (class_fields minor major pool flags this above) (each_inside low 2 (index_at (is_plain_class pool)) (index_inside (is_plain_class pool) low))
       (λ interfaces. then_inside low 0 (counted_after (field_at pool)) (class_methods minor major pool flags this above interfaces) (counted_inside low (field_at pool) (λ before. field_inside pool before low))
       (λ fields. then_inside low 0 (counted_after (method_at pool)) (class_attributes minor major pool flags this above interfaces fields) (counted_inside low (method_at pool) (λ before. method_inside pool before low))
@@ -117,7 +117,7 @@ class_within bytes f are e = go (met bytes f are e)
     go (left c rest is some same) = let less = shorter_rest bytes c rest are is in subst (IsWithin (length bytes)) (sym same) (omega (arith, some, less))
 
 -- A front that ends before the place, or at it where no class stands before it, is only cut.
-only_cut : (bytes : List ℕ) (f : Fault) (n : ℕ) → IsBytes bytes → n ≤ place_of f → class_of bytes ≡ Err f → ((c : Class) → class_of (take n bytes) ≡ Ok c → ⊥) → IsOnlyCut n (class_of (take n bytes))
+only_cut : (bytes : List ℕ) (f : Fault) (n : ℕ) → IsBytes bytes → n ≤ fault_place f → class_of bytes ≡ Err f → ((c : Class) → class_of (take n bytes) ≡ Ok c → ⊥) → IsOnlyCut n (class_of (take n bytes))
 only_cut bytes f n are under e no_class = go (class_of (take n bytes)) refl
   where
     fits : IsBytes (take n bytes)
@@ -134,11 +134,11 @@ only_cut bytes f n are under e no_class = go (class_of (take n bytes)) refl
     other g is plain =
         let stays : class_of bytes ≡ Err g = ap class_of (sym parts) ∙ class_stays (take n bytes) (drop n bytes) g fits plain is in
         let same : g ≡ f = err_is {A = Class} g f (sym stays ∙ e) in
-        let before : place_of g < length (take n bytes) = strict g plain (class_within (take n bytes) g fits is) in
-        let named : place_of g ≡ place_of f = ap place_of same in
+        let before : fault_place g < length (take n bytes) = strict g plain (class_within (take n bytes) g fits is) in
+        let named : fault_place g ≡ fault_place f = ap fault_place same in
         omega (arith, before, short, under, named)
       where
-        strict : (g : Fault) → is_cut g ≡ false → IsWithin (length (take n bytes)) g → place_of g < length (take n bytes)
+        strict : (g : Fault) → is_cut g ≡ false → IsWithin (length (take n bytes)) g → fault_place g < length (take n bytes)
         strict (cut_short at) plain is = absurd cc
         strict g plain is = is
 
@@ -166,25 +166,25 @@ left_behind bytes f n c are e is =
     ended : Class × List ℕ → Result Class Fault
     ended found = cond (eqb (length found.1) 0) (Ok found.0) (Err (bytes_left (place (length bytes) found.1)))
 
-pub class_shorter : (bytes : List ℕ) (f : Fault) (n : ℕ) → IsBytes bytes → n < place_of f → class_of bytes ≡ Err f → IsOnlyCut n (class_of (take n bytes))
+pub class_shorter : (bytes : List ℕ) (f : Fault) (n : ℕ) → IsBytes bytes → n < fault_place f → class_of bytes ≡ Err f → IsOnlyCut n (class_of (take n bytes))
 class_shorter bytes f n are under e =
     only_cut bytes f n are (omega (arith, under)) e
-    (λ c is. let at : place_of f ≡ place (length bytes) (drop n bytes) = ap place_of (left_behind bytes f n c are e is) in omega (arith, at, under, length-drop n bytes))
+    (λ c is. let at : fault_place f ≡ place (length bytes) (drop n bytes) = ap fault_place (left_behind bytes f n c are e is) in omega (arith, at, under, length-drop n bytes))
 
-pub class_good : (bytes : List ℕ) (f : Fault) → IsBytes bytes → class_of bytes ≡ Err f → IsGoodBefore f (class_of (take (place_of f) bytes))
+pub class_good : (bytes : List ℕ) (f : Fault) → IsBytes bytes → class_of bytes ≡ Err f → IsGoodBefore f (class_of (take (fault_place f) bytes))
 class_good bytes f are e = go (met bytes f are e)
   where
-    front : (g : Fault) (answer : Result Class Fault) → IsInside (length bytes) g → IsOnlyCut (place_of g) answer → IsGoodBefore g answer
+    front : (g : Fault) (answer : Result Class Fault) → IsInside (length bytes) g → IsOnlyCut (fault_place g) answer → IsGoodBefore g answer
     front (bytes_left at) answer is cut = absurd is
     front g answer is cut = cut
 
-    go : Met bytes f → IsGoodBefore f (class_of (take (place_of f) bytes))
+    go : Met bytes f → IsGoodBefore f (class_of (take (fault_place f) bytes))
     go (inside is) =
-        front f (class_of (take (place_of f) bytes)) is
-        (only_cut bytes f (place_of f) are (omega arith) e (λ c read. subst (IsInside (length bytes)) (left_behind bytes f (place_of f) c are e read) is))
+        front f (class_of (take (fault_place f) bytes)) is
+        (only_cut bytes f (fault_place f) are (omega arith) e (λ c read. subst (IsInside (length bytes)) (left_behind bytes f (fault_place f) c are e read) is))
     go (left c rest read some same) =
         let at = place (length bytes) rest in
         let t = class_reads.takes (length bytes) bytes c rest are read in
         let size : length (spelling.class c) ≡ at = omega (arith, ap length t.1.parts ∙ length-append (spelling.class c) rest) in
         let before : take at bytes ≡ spelling.class c = ap (take at) t.1.parts ∙ take_at (spelling.class c) rest at size in
-        subst (λ (g : Fault). IsGoodBefore g (class_of (take (place_of g) bytes))) (sym same) (c, ap class_of before ∙ class_again c t.0)
+        subst (λ (g : Fault). IsGoodBefore g (class_of (take (fault_place g) bytes))) (sym same) (c, ap class_of before ∙ class_again c t.0)

@@ -11,12 +11,12 @@ use Rattle.class_model.specs.Constants.{IsPool}
 use Rattle.class_model.specs.Attributes.{Place, in_class, in_field, in_method, in_code, is_known, attribute_name, HasForm, IsHandler, IsCodeAttributes}
 use Rattle.class_model.specs.Shape.{is_plain_class, has_code}
 use Rattle.class_model.specs.Spelling as spelling
-use Rattle.class_text.specs.Reading.{Fault, cut_short, bad_magic, bad_major, bad_attribute, bad_length, barred_code, second_attribute, code_missing, bytes_left, is_cut, place_of, place, IsBytes}
+use Rattle.class_text.specs.Reading.{Fault, cut_short, bad_magic, bad_major, bad_attribute, bad_length, barred_code, second_attribute, code_missing, bytes_left, is_cut, fault_place, place, IsBytes}
 use Rattle.class_text.specs.Readers.{Reader, u2_at, u4_at, index_at, counted_at, counted_after, run_at, within}
 use Rattle.class_text.specs.Pool.{pool_at}
-use Rattle.class_text.specs.Elements.{is_text}
-use Rattle.class_text.specs.Attributes.{text_of, is_first, bootstraps_at, constant_value_at, code_at, stack_map_at, annotations_at, other_at, own_name, own_content_at, content_at, code_content_at, code_attribute_at, code_attributes_at, code_bytes_at, is_caught, handler_at, named_at, attribute_by, attribute_at, attributes_at}
-use Rattle.class_text.specs.Classes.{is_field_name, is_name_of_method, is_field_type, is_method_type, is_barred, field_at, method_at, is_super, minor_at, major_at, behind_pool_at, class_at_front, class_of}
+use Rattle.class_text.specs.Elements.{leads_to_text}
+use Rattle.class_text.specs.Attributes.{text_or_empty, is_first, bootstraps_at, constant_value_at, code_at, stack_map_at, annotations_at, other_at, own_name, own_content_at, content_at, code_content_at, code_attribute_at, code_attributes_at, code_bytes_at, leads_to_caught, handler_at, named_at, attribute_by, attribute_at, attributes_at}
+use Rattle.class_text.specs.Classes.{leads_to_field_name, leads_to_method_name, leads_to_field_type, leads_to_method_type, is_barred, field_at, method_at, leads_to_super, minor_at, major_at, behind_pool_at, class_at_front, class_of}
 use Rattle.class_text.specs.Places.{IsInContent, IsInCode, Stops, IsInFile, is_left}
 use Rattle.class_text.proofs.Places.{Failed, first, later, bind_err, err_is, failed}
 use Rattle.class_text.proofs.Readers.{Reads, bind}
@@ -42,7 +42,7 @@ was_cut p f e = sym (ap is_cut (err_is (cut_short p) f e))
 -- where a content has no bytes it is only cut
 content_nothing : (pool : Pool) (stand : Place) (name at end : ℕ) (f : Fault) → content_at pool stand name at end [] ≡ Err f → is_cut f ≡ true
 unfolding content_at bootstraps_at constant_value_at code_at stack_map_at annotations_at other_at counted_after index_at u2_at
-content_nothing pool stand name at end f e = go (cases_Bool (bytes_eq (own_name stand) (text_of pool name))) (cases_Bool (is_known stand (text_of pool name)))
+content_nothing pool stand name at end f e = go (cases_Bool (bytes_eq (own_name stand) (text_or_empty pool name))) (cases_Bool (is_known stand (text_or_empty pool name)))
   where
     own : (s : Place) → own_content_at pool s name at end [] ≡ Err f → is_cut f ≡ true
     own in_class e = was_cut (place end []) f e
@@ -50,14 +50,14 @@ content_nothing pool stand name at end f e = go (cases_Bool (bytes_eq (own_name 
     own in_method e = was_cut (place end []) f e
     own in_code e = was_cut (place end []) f e
 
-    go : (bytes_eq (own_name stand) (text_of pool name) ≡ true) ⊎ (bytes_eq (own_name stand) (text_of pool name) ≡ false) → (is_known stand (text_of pool name) ≡ true) ⊎ (is_known stand (text_of pool name) ≡ false) → is_cut f ≡ true
+    go : (bytes_eq (own_name stand) (text_or_empty pool name) ≡ true) ⊎ (bytes_eq (own_name stand) (text_or_empty pool name) ≡ false) → (is_known stand (text_or_empty pool name) ≡ true) ⊎ (is_known stand (text_or_empty pool name) ≡ false) → is_cut f ≡ true
     go (inl y) k = own stand (rw y at e)
     go (inr n) (inl y) = was_cut (place end []) f (rw (n, y) at e)
     go (inr n) (inr m) = absurd (let bad : other_at name end [] ≡ Err f = rw (n, m) at e in cc)
 
 code_content_nothing : (pool : Pool) (stand : Place) (name at end : ℕ) (f : Fault) → code_content_at pool name at end [] ≡ Err f → is_cut f ≡ true
 unfolding code_content_at stack_map_at other_at counted_after u2_at
-code_content_nothing pool stand name at end f e = elim (cases_Bool (bytes_eq (codes "StackMapTable") (text_of pool name))) [
+code_content_nothing pool stand name at end f e = elim (cases_Bool (bytes_eq (codes "StackMapTable") (text_or_empty pool name))) [
   | inl y ↦ was_cut (place end []) f (rw y at e)
   | inr n ↦ absurd (let bad : other_at name end [] ≡ Err f = rw n at e in cc)
 ]
@@ -68,8 +68,8 @@ module _ (pool : Pool) (few : IsFew pool) (stand : Place) (barred : Bool) (befor
 
   judged_tied : (at n : ℕ) → Tied (suc at) (IsAt at) Within (judged pool stand barred before at n)
   judged_tied at n =
-      either_tied (suc at) (IsAt at) Within (is_first (is_known stand) bytes_eq (map (attribute_name pool) before) (text_of pool n)) (λ end bytes. cond (barred && bytes_eq (codes "Code") (text_of pool n)) (Err (bad_attribute at barred_code)) (Ok (n, bytes))) (λ end bytes. Err (second_attribute at))
-      (either_tied (suc at) (IsAt at) Within (barred && bytes_eq (codes "Code") (text_of pool n)) (λ end bytes. Err (bad_attribute at barred_code)) (λ end bytes. Ok (n, bytes)) (fail_tied (suc at) (IsAt at) Within (bad_attribute at barred_code) refl) (give_tied (suc at) (IsAt at) Within n))
+      either_tied (suc at) (IsAt at) Within (is_first (is_known stand) bytes_eq (map (attribute_name pool) before) (text_or_empty pool n)) (λ end bytes. cond (barred && bytes_eq (codes "Code") (text_or_empty pool n)) (Err (bad_attribute at barred_code)) (Ok (n, bytes))) (λ end bytes. Err (second_attribute at))
+      (either_tied (suc at) (IsAt at) Within (barred && bytes_eq (codes "Code") (text_or_empty pool n)) (λ end bytes. Err (bad_attribute at barred_code)) (λ end bytes. Ok (n, bytes)) (fail_tied (suc at) (IsAt at) Within (bad_attribute at barred_code) refl) (give_tied (suc at) (IsAt at) Within n))
       (fail_tied (suc at) (IsAt at) Within (second_attribute at) refl)
 
   named_none : CutsNothing (named_at pool stand barred before)
@@ -79,11 +79,11 @@ module _ (pool : Pool) (few : IsFew pool) (stand : Place) (barred : Bool) (befor
   named_tied : (low : ℕ) → Tied low NoFault Within (named_at pool stand barred before)
   unfolding named_at
   named_tied low =
-      here_tied low 2 Within (index_at (is_text pool)) (λ n. is_text pool n ≡ true) (to_be_bytes w16) (judged pool stand barred before) (omega arith) (index_none (is_text pool)) (text_reads pool few) (index_inside (is_text pool) low) (index_tied low NoFault Within (is_text pool))
+      here_tied low 2 Within (index_at (leads_to_text pool)) (λ n. leads_to_text pool n ≡ true) (to_be_bytes w16) (judged pool stand barred before) (omega arith) (index_none (leads_to_text pool)) (text_reads pool few) (index_inside (leads_to_text pool) low) (index_tied low NoFault Within (leads_to_text pool))
       (λ at n p. judged_tied at n)
 
   -- an attribute, whose content is only cut where it has no bytes
-  attribute_tied : (low : ℕ) (IsNamed : ℕ → Type 0) → Reads (named_at pool stand barred before) IsNamed (to_be_bytes w16) → ((name : ℕ) → IsNamed name → is_text pool name ≡ true)
+  attribute_tied : (low : ℕ) (IsNamed : ℕ → Type 0) → Reads (named_at pool stand barred before) IsNamed (to_be_bytes w16) → ((name : ℕ) → IsNamed name → leads_to_text pool name ≡ true)
       → ((name at end : ℕ) (f : Fault) → contents stand name at end [] ≡ Err f → is_cut f ≡ true) → Tied low NoFault Within (attribute_by (contents stand) pool stand barred before)
   unfolding attribute_by
   attribute_tied low IsNamed names text nothing =
@@ -118,7 +118,7 @@ module _ (pool : Pool) (few : IsFew pool) where
       bind_tied low K InCode u2_at (λ n. n < 2 ^ 16) (to_be_bytes w16) (handler_stop pool) u2_reads (u2_tied low K InCode)
       (λ start a. bind_tied low K InCode u2_at (λ n. n < 2 ^ 16) (to_be_bytes w16) (handler_start pool start) u2_reads (u2_tied low K InCode)
       (λ stop b. bind_tied low K InCode u2_at (λ n. n < 2 ^ 16) (to_be_bytes w16) (handler_caught pool start stop) u2_reads (u2_tied low K InCode)
-      (λ handler c. made_tied low K InCode (index_at (is_caught pool)) (handler_of start stop handler) (index_tied low K InCode (is_caught pool)))))
+      (λ handler c. made_tied low K InCode (index_at (leads_to_caught pool)) (handler_of start stop handler) (index_tied low K InCode (leads_to_caught pool)))))
 
   pub code_tied : (name at : ℕ) → Tied (suc at) (IsAt at) InCode (code_at pool name at)
   unfolding code_at
@@ -151,16 +151,16 @@ module _ (pool : Pool) (few : IsFew pool) where
   unfolding field_at
   field_tied before low =
       bind_tied low NoFault There u2_at (λ n. n < 2 ^ 16) (to_be_bytes w16) (field_name pool before) u2_reads (u2_tied low NoFault There)
-      (λ flags a. bind_tied low NoFault There (index_at (is_field_name pool)) _ _ (field_type pool before flags) (field_names pool few before) (index_tied low NoFault There (is_field_name pool))
-      (λ name b. bind_tied low NoFault There (index_at (is_field_type pool before name)) _ _ (field_attributes pool before flags name) (field_types pool few before name) (index_tied low NoFault There (is_field_type pool before name))
-      (λ descriptor c. made_tied low NoFault There (attributes_at pool (in_field (text_of pool descriptor)) false) (member_of flags name descriptor) (attributes_tied low NoFault (in_field (text_of pool descriptor)) false))))
+      (λ flags a. bind_tied low NoFault There (index_at (leads_to_field_name pool)) _ _ (field_type pool before flags) (field_names pool few before) (index_tied low NoFault There (leads_to_field_name pool))
+      (λ name b. bind_tied low NoFault There (index_at (leads_to_field_type pool before name)) _ _ (field_attributes pool before flags name) (field_types pool few before name) (index_tied low NoFault There (leads_to_field_type pool before name))
+      (λ descriptor c. made_tied low NoFault There (attributes_at pool (in_field (text_or_empty pool descriptor)) false) (member_of flags name descriptor) (attributes_tied low NoFault (in_field (text_or_empty pool descriptor)) false))))
 
   method_tied : (before : List Member) (low : ℕ) → Tied low NoFault There (method_at pool before)
   unfolding method_at
   method_tied before low =
       here_tied low 2 There u2_at (λ n. n < 2 ^ 16) (to_be_bytes w16) (method_name pool before) (omega arith) u2_none u2_reads (u2_inside low) (u2_tied low NoFault There)
-      (λ at flags a. bind_tied (suc at) (IsAt at) There (index_at (is_name_of_method pool)) _ _ (method_type pool before at flags) (method_names pool few before) (index_tied (suc at) (IsAt at) There (is_name_of_method pool))
-      (λ name b. bind_tied (suc at) (IsAt at) There (index_at (is_method_type pool before flags name)) _ _ (method_attributes pool before at flags name) (method_types pool few before flags name) (index_tied (suc at) (IsAt at) There (is_method_type pool before flags name))
+      (λ at flags a. bind_tied (suc at) (IsAt at) There (index_at (leads_to_method_name pool)) _ _ (method_type pool before at flags) (method_names pool few before) (index_tied (suc at) (IsAt at) There (leads_to_method_name pool))
+      (λ name b. bind_tied (suc at) (IsAt at) There (index_at (leads_to_method_type pool before flags name)) _ _ (method_attributes pool before at flags name) (method_types pool few before flags name) (index_tied (suc at) (IsAt at) There (leads_to_method_type pool before flags name))
       (λ descriptor c. bind_tied (suc at) (IsAt at) There (attributes_at pool in_method (is_barred flags)) _ _ (method_code pool before at flags name descriptor) (attributes_of pool few in_method (is_barred flags)) (attributes_tied (suc at) (IsAt at) in_method (is_barred flags))
       (λ found d. either_tied (suc at) (IsAt at) There (is_barred flags || has_code found) (λ end bytes. Ok (member_of flags name descriptor found, bytes)) (λ end bytes. Err (code_missing at))
       (give_tied (suc at) (IsAt at) There (member_of flags name descriptor found)) (fail_tied (suc at) (IsAt at) There (code_missing at) refl)))))
@@ -173,7 +173,7 @@ module _ (pool : Pool) (few : IsFew pool) where
     behind_pool_tied low =
         bind_tied low NoFault There u2_at (λ n. n < 2 ^ 16) (to_be_bytes w16) (class_this minor major pool) u2_reads (u2_tied low NoFault There)
         (λ flags a. bind_tied low NoFault There (index_at (is_plain_class pool)) _ _ (class_super minor major pool flags) numbers (index_tied low NoFault There (is_plain_class pool))
-        (λ this b. bind_tied low NoFault There (index_at (is_super pool this)) _ _ (class_interfaces minor major pool flags this) (super_numbers minor major pool few this) (index_tied low NoFault There (is_super pool this))
+        (λ this b. bind_tied low NoFault There (index_at (leads_to_super pool this)) _ _ (class_interfaces minor major pool flags this) (super_numbers minor major pool few this) (index_tied low NoFault There (leads_to_super pool this))
         (λ above c. bind_tied low NoFault There (counted_at (index_at (is_plain_class pool))) _ _ (class_fields minor major pool flags this above) (each_counted (index_at (is_plain_class pool)) (λ n. is_plain_class pool n ≡ true) (to_be_bytes w16) numbers)
         (counted_tied low NoFault There (λ before. index_at (is_plain_class pool)) (λ before n. is_plain_class pool n ≡ true) (to_be_bytes w16) (λ before. numbers) (λ before. index_tied low NoFault There (is_plain_class pool)))
         (λ interfaces d. bind_tied low NoFault There (counted_after (field_at pool)) _ _ (class_methods minor major pool flags this above interfaces) (fields_read pool few) (counted_tied low NoFault There (field_at pool) _ _ (field_reads pool few) (λ before. field_tied before low))
@@ -201,7 +201,7 @@ module _ (W : ℕ → List ℕ → Fault → Type 0) where
 map_stops : {A : Type 0} (read : Reader A) (V W : ℕ → List ℕ → Fault → Type 0) (end : ℕ) (bytes : List ℕ) (f : Fault) → ((rest : List ℕ) → V end rest f → W end rest f) → Stops read V end bytes f → Stops read W end bytes f
 map_stops read V W end bytes f on s = record { front = s.front; rest = s.rest; parts = s.parts; cut = s.cut; what = go s.rest s.what }
   where
-    go : (rest : List ℕ) → (place_of f ≡ place end rest) ⊎ V end rest f → (place_of f ≡ place end rest) ⊎ W end rest f
+    go : (rest : List ℕ) → (fault_place f ≡ place end rest) ⊎ V end rest f → (fault_place f ≡ place end rest) ⊎ W end rest f
     go rest (inl h) = inl h
     go rest (inr v) = inr (on rest v)
 

@@ -13,8 +13,8 @@ use Rattle.class_model.specs.Spelling as spelling
 use Rattle.class_text.specs.Reading.{Fault, cut_short, bad_tag, bad_text, bad_index, astray, bad_magic, bad_major, bad_attribute, second_attribute, code_missing, bytes_left, place, IsBytes}
 use Rattle.class_text.specs.Readers.{Reader, u2_at, u4_at, index_at, counted_at, counted_after}
 use Rattle.class_text.specs.Pool.{pool_at}
-use Rattle.class_text.specs.Attributes.{text_of, attributes_at}
-use Rattle.class_text.specs.Classes.{is_field_name, is_name_of_method, is_field_type, is_method_type, is_barred, field_at, method_at, is_super, minor_at, major_at, behind_pool_at, class_at_front, class_of}
+use Rattle.class_text.specs.Attributes.{text_or_empty, attributes_at}
+use Rattle.class_text.specs.Classes.{leads_to_field_name, leads_to_method_name, leads_to_field_type, leads_to_method_type, is_barred, field_at, method_at, leads_to_super, minor_at, major_at, behind_pool_at, class_at_front, class_of}
 use Rattle.class_text.specs.Meanings.{StandsAt, a_plain_class, a_super_class, a_field_name, a_method_name, a_field_type, a_method_type, IsWithoutCode, IsShort, IsMeantBehind, IsMeantInPool, IsMeant}
 use Rattle.class_text.proofs.Places.{Failed, first, later, bind_err, err_is}
 use Rattle.class_text.proofs.Readers.{bind}
@@ -40,9 +40,9 @@ module _ (pool : Pool) (few : IsFew pool) (file : List ℕ) (start : ℕ) where
   unfolding field_at
   field_tells before =
       then_tells file start (Meant pool file start) u2_at (field_name pool before) (number_tells pool file start)
-      (λ flags. then_tells file start (Meant pool file start) (index_at (is_field_name pool)) (field_type pool before flags) (wanted_tells pool file start a_field_name)
-      (λ name. then_tells file start (Meant pool file start) (index_at (is_field_type pool before name)) (field_attributes pool before flags name) (wanted_tells pool file start (a_field_type before name))
-      (λ descriptor. made_tells file start (Meant pool file start) (attributes_at pool (in_field (text_of pool descriptor)) false) (member_of flags name descriptor) (attributes_tells pool file start few (in_field (text_of pool descriptor)) false))))
+      (λ flags. then_tells file start (Meant pool file start) (index_at (leads_to_field_name pool)) (field_type pool before flags) (wanted_tells pool file start a_field_name)
+      (λ name. then_tells file start (Meant pool file start) (index_at (leads_to_field_type pool before name)) (field_attributes pool before flags name) (wanted_tells pool file start (a_field_type before name))
+      (λ descriptor. made_tells file start (Meant pool file start) (attributes_at pool (in_field (text_or_empty pool descriptor)) false) (member_of flags name descriptor) (attributes_tells pool file start few (in_field (text_or_empty pool descriptor)) false))))
 
   neither : (a b : Bool) → (a || b) ≡ false → (a ≡ false) × (b ≡ false)
   neither true b e = absurd cc
@@ -56,10 +56,10 @@ module _ (pool : Pool) (few : IsFew pool) (file : List ℕ) (start : ℕ) where
       here_behind file start M [] from (λ p. bind u2_at (method_name pool before p))
       (bind_behind file start M [] from u2_at (λ n. n < 2 ^ 16) (to_be_bytes w16) (method_name pool before at) u2_reads (plain_behind file start M [] from u2_at (number_tells pool file start))
       (λ flags a j. let t1 = to_be_bytes w16 flags in
-      bind_behind file start M t1 from (index_at (is_name_of_method pool)) _ (to_be_bytes w16) (method_type pool before at flags) (method_names pool few before) (plain_behind file start M t1 from (index_at (is_name_of_method pool)) (wanted_tells pool file start a_method_name))
+      bind_behind file start M t1 from (index_at (leads_to_method_name pool)) _ (to_be_bytes w16) (method_type pool before at flags) (method_names pool few before) (plain_behind file start M t1 from (index_at (leads_to_method_name pool)) (wanted_tells pool file start a_method_name))
       (λ name b k. let t2 = t1 ++ to_be_bytes w16 name in
-      bind_behind file start M t2 from (index_at (is_method_type pool before flags name)) _ (to_be_bytes w16) (method_attributes pool before at flags name) (method_types pool few before flags name)
-      (plain_behind file start M t2 from (index_at (is_method_type pool before flags name)) (wanted_tells pool file start (a_method_type before flags name)))
+      bind_behind file start M t2 from (index_at (leads_to_method_type pool before flags name)) _ (to_be_bytes w16) (method_attributes pool before at flags name) (method_types pool few before flags name)
+      (plain_behind file start M t2 from (index_at (leads_to_method_type pool before flags name)) (wanted_tells pool file start (a_method_type before flags name)))
       (λ descriptor c l. let t3 = t2 ++ to_be_bytes w16 descriptor in
       bind_behind file start M t3 from (attributes_at pool in_method (is_barred flags)) _ (spelling.counted spelling.attribute) (method_code pool before at flags name descriptor) (attributes_of pool few in_method (is_barred flags))
       (plain_behind file start M t3 from (attributes_at pool in_method (is_barred flags)) (attributes_tells pool file start few in_method (is_barred flags)))
@@ -89,7 +89,7 @@ module _ (pool : Pool) (few : IsFew pool) (file : List ℕ) (start : ℕ) where
   behind_pool_tells minor major =
       then_tells file start M u2_at (class_this minor major pool) (number_tells pool file start)
       (λ flags. then_tells file start M (index_at (is_plain_class pool)) (class_super minor major pool flags) plain
-      (λ this. then_tells file start M (index_at (is_super pool this)) (class_interfaces minor major pool flags this) (wanted_tells pool file start (a_super_class this))
+      (λ this. then_tells file start M (index_at (leads_to_super pool this)) (class_interfaces minor major pool flags this) (wanted_tells pool file start (a_super_class this))
       (λ above. then_tells file start M (counted_at (index_at (is_plain_class pool))) (class_fields minor major pool flags this above) (each_tells file start M (cuts pool file start) (index_at (is_plain_class pool)) plain)
       (λ interfaces. then_tells file start M (counted_after (field_at pool)) (class_methods minor major pool flags this above interfaces) (counted_tells file start M (cuts pool file start) (field_at pool) field_tells)
       (λ fields. then_tells file start M (counted_after (method_at pool)) (class_attributes minor major pool flags this above interfaces fields) (counted_tells file start M (cuts pool file start) (method_at pool) method_tells)

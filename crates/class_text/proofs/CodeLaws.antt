@@ -15,8 +15,8 @@ use Rattle.class_model.specs.Attributes as model
 use Rattle.class_model.specs.Spelling as spelling
 use Rattle.class_text.specs.Reading.{bad_attribute, bad_length, IsBytes}
 use Rattle.class_text.specs.Readers.{u2_at, u4_at, counted_at, run_at}
-use Rattle.class_text.specs.Elements.{is_text}
-use Rattle.class_text.specs.Attributes.{text_of, handler_at, code_content_at, code_attribute_at, code_attributes_at, code_bytes_at, code_at, own_name, own_content_at, content_at, annotations_at, other_at, attribute_at, attributes_at, bootstraps_at, constant_value_at, stack_map_at}
+use Rattle.class_text.specs.Elements.{leads_to_text}
+use Rattle.class_text.specs.Attributes.{text_or_empty, handler_at, code_content_at, code_attribute_at, code_attributes_at, code_bytes_at, code_at, own_name, own_content_at, content_at, annotations_at, other_at, attribute_at, attributes_at, bootstraps_at, constant_value_at, stack_map_at}
 use Rattle.class_text.proofs.Readers.{Reads, ReadsAll, all_reads, as_reads, made_reads, bind, bind_reads, unless_reads, either_reads_all}
 use Rattle.class_text.proofs.Steps.{code_made, code_inner, code_table, code_run, code_locals}
 use Rattle.class_text.proofs.Parts.{u2_reads, u4_reads, run_reads, each_counted}
@@ -25,11 +25,11 @@ use Rattle.class_text.proofs.AttributeLaws.{handler_reads, code_contents, stack_
 use Rattle.class_text.proofs.FramedLaws.{is_code_barred, attributes_read}
 
 -- Each form has a name that is a text.
-named_text : (pool : Pool) (test : List ℕ → Bool) (n : ℕ) → is_some_that test (text_at pool n) ≡ true → is_text pool n ≡ true
-unfolding is_text
+named_text : (pool : Pool) (test : List ℕ → Bool) (n : ℕ) → is_some_that test (text_at pool n) ≡ true → leads_to_text pool n ≡ true
+unfolding leads_to_text
 named_text pool test n e = some_that test (text_at pool n) e
 
-pub form_named : (Inner : List Attribute → Type 0) (pool : Pool) (stand : Place) (l : AttributeLayer) → HasForm Inner pool stand l → is_text pool (spelling.name_of l) ≡ true
+pub form_named : (Inner : List Attribute → Type 0) (pool : Pool) (stand : Place) (l : AttributeLayer) → HasForm Inner pool stand l → leads_to_text pool (spelling.name_of l) ≡ true
 unfolding is_named
 form_named Inner pool in_method (Attribute-F.Code n a b c d e) is = named_text pool (bytes_eq (codes "Code")) n is.0
 form_named Inner pool in_code (Attribute-F.StackMap n frames) is = named_text pool (bytes_eq (codes "StackMapTable")) n is.0
@@ -108,7 +108,7 @@ inner_of _ = []
 spelled_code : (a b c d e f : List ℕ) → a ++ (b ++ ((c ++ d) ++ (e ++ f))) ≡ ((((a ++ b) ++ c) ++ d) ++ e) ++ f
 spelled_code a b c d e f = simp append_assoc
 
-module _ (pool : Pool) (few : IsFew pool) (name : ℕ) (named : is_text pool name ≡ true) (at : ℕ) where
+module _ (pool : Pool) (few : IsFew pool) (name : ℕ) (named : leads_to_text pool name ≡ true) (at : ℕ) where
   abbrev layer : Attribute → AttributeLayer
   layer a = out-Attribute a
 
@@ -181,7 +181,7 @@ module _ (pool : Pool) (few : IsFew pool) (name : ℕ) (named : is_text pool nam
   abbrev IsCodeLayer : AttributeLayer → Type 0
   IsCodeLayer l = (spelling.name_of l ≡ name) × HasForm (IsCodeAttributes pool) pool in_method l
 
-  code_form : bytes_eq (codes "Code") (text_of pool name) ≡ true → (a : Attribute) → P0 a → IsCodeLayer (layer a)
+  code_form : bytes_eq (codes "Code") (text_or_empty pool name) ≡ true → (a : Attribute) → P0 a → IsCodeLayer (layer a)
   code_form e a p =
       let is = opened a (stack_of (layer a)) (locals_of (layer a)) (code_of (layer a)) (table_of (layer a)) (inner_of (layer a)) p.1.1.1.1.1 in
       let b = p.1.1.0 in
@@ -196,7 +196,7 @@ module _ (pool : Pool) (few : IsFew pool) (name : ℕ) (named : is_text pool nam
     inner : IsCodeAttributes pool (inner_of l)
     is : l ≡ Attribute-F.Code name (stack_of l) (locals_of l) (code_of l) (table_of l) (inner_of l)
 
-  parts : bytes_eq (codes "Code") (text_of pool name) ≡ true → (l : AttributeLayer) → IsCodeLayer l → Parts l
+  parts : bytes_eq (codes "Code") (text_or_empty pool name) ≡ true → (l : AttributeLayer) → IsCodeLayer l → Parts l
   unfolding stack_of locals_of code_of table_of inner_of
   parts e (Attribute-F.Code n a b c d f) q =
       let k = q.1.1 in
@@ -205,12 +205,12 @@ module _ (pool : Pool) (few : IsFew pool) (name : ℕ) (named : is_text pool nam
   parts e (Attribute-F.Annotations n list) q = is_no_named pool few name named (codes "Code") (codes "RuntimeVisibleAnnotations") n e refl q.0 q.1.0
   parts e _ q = absurd q.1
 
-  form_code : bytes_eq (codes "Code") (text_of pool name) ≡ true → (a : Attribute) → IsCodeLayer (layer a) → P0 a
+  form_code : bytes_eq (codes "Code") (text_or_empty pool name) ≡ true → (a : Attribute) → IsCodeLayer (layer a) → P0 a
   form_code e a q =
       let k = parts e (layer a) q in
       (k.stack, (k.locals, (k.code, (k.table, (k.inner, sym (roll-out-Attribute a) ∙ ap roll-Attribute k.is)))))
 
-  code_spelled : bytes_eq (codes "Code") (text_of pool name) ≡ true → (a : Attribute) → IsCodeLayer (layer a) → s0 a ≡ spelling.content_by spelling.code_attribute (layer a)
+  code_spelled : bytes_eq (codes "Code") (text_or_empty pool name) ≡ true → (a : Attribute) → IsCodeLayer (layer a) → s0 a ≡ spelling.content_by spelling.code_attribute (layer a)
   unfolding spelling.content_by
   code_spelled e a q =
       let k = parts e (layer a) q in
@@ -218,7 +218,7 @@ module _ (pool : Pool) (few : IsFew pool) (name : ℕ) (named : is_text pool nam
       spelled_code (to_be_bytes w16 (stack_of l)) (to_be_bytes w16 (locals_of l)) (to_be_bytes w32 (length (code_of l))) (code_of l) (spelling.counted spelling.handler (table_of l)) (spelling.counted spelling.code_attribute (inner_of l))
       ∙ ap (spelling.content_by spelling.code_attribute) (sym k.is)
 
-  pub code_reads : bytes_eq (codes "Code") (text_of pool name) ≡ true → Reads (code_at pool name at) (λ a. IsCodeLayer (layer a)) (λ a. spelling.content_by spelling.code_attribute (layer a))
+  pub code_reads : bytes_eq (codes "Code") (text_or_empty pool name) ≡ true → Reads (code_at pool name at) (λ a. IsCodeLayer (layer a)) (λ a. spelling.content_by spelling.code_attribute (layer a))
   unfolding code_at
   code_reads e =
       as_reads (code_at pool name at) P0 s0 (λ a. IsCodeLayer (layer a)) (λ a. spelling.content_by spelling.code_attribute (layer a)) read0 (code_form e) (form_code e) (code_spelled e)
@@ -229,17 +229,17 @@ not_so : (b : Bool) → (b ≡ true → ⊥) → b ≡ false
 not_so true n = absurd (n refl)
 not_so false n = refl
 
-pub contents_read : (pool : Pool) → IsFew pool → (stand : Place) (name at : ℕ) → is_text pool name ≡ true
+pub contents_read : (pool : Pool) → IsFew pool → (stand : Place) (name at : ℕ) → leads_to_text pool name ≡ true
     → ReadsAll (content_at pool stand name at) (λ a. (spelling.name_of (out-Attribute a) ≡ name) × HasForm (IsCodeAttributes pool) pool stand (out-Attribute a)) (λ a. spelling.content_by spelling.code_attribute (out-Attribute a))
 unfolding content_at
 contents_read pool few stand name at named =
-    either_reads_all (bytes_eq (own_name stand) (text_of pool name)) (own_content_at pool stand name at) (λ end bytes. cond (is_known stand (text_of pool name)) (annotations_at pool name at end bytes) (other_at name end bytes)) _ _
+    either_reads_all (bytes_eq (own_name stand) (text_or_empty pool name)) (own_content_at pool stand name at) (λ end bytes. cond (is_known stand (text_or_empty pool name)) (annotations_at pool name at end bytes) (other_at name end bytes)) _ _
     (own stand)
-    (λ o. either_reads_all (is_known stand (text_of pool name)) (annotations_at pool name at) (other_at name) _ _
+    (λ o. either_reads_all (is_known stand (text_or_empty pool name)) (annotations_at pool name at) (other_at name) _ _
     (λ k. all_reads (annotations_at pool name at) _ _ (annotated pool few name named (IsCodeAttributes pool) spelling.code_attribute stand at o k))
     (λ k. others pool few name named (IsCodeAttributes pool) spelling.code_attribute stand k))
   where
-    own : (s : Place) → bytes_eq (own_name s) (text_of pool name) ≡ true → ReadsAll (own_content_at pool s name at) (λ a. (spelling.name_of (out-Attribute a) ≡ name) × HasForm (IsCodeAttributes pool) pool s (out-Attribute a)) (λ a. spelling.content_by spelling.code_attribute (out-Attribute a))
+    own : (s : Place) → bytes_eq (own_name s) (text_or_empty pool name) ≡ true → ReadsAll (own_content_at pool s name at) (λ a. (spelling.name_of (out-Attribute a) ≡ name) × HasForm (IsCodeAttributes pool) pool s (out-Attribute a)) (λ a. spelling.content_by spelling.code_attribute (out-Attribute a))
     own in_class e = all_reads (bootstraps_at pool name) _ _ (bootstraps pool few name named (IsCodeAttributes pool) spelling.code_attribute e)
     own (in_field d) e = all_reads (constant_value_at pool d name) _ _ (constant_values pool few name named (IsCodeAttributes pool) spelling.code_attribute d e)
     own in_method e = all_reads (code_at pool name at) _ _ (code_reads pool few name named at e)

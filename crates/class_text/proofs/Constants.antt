@@ -11,7 +11,7 @@ use Rattle.class_model.specs.Constants.{IsConstant, takes_two, is_second}
 use Rattle.class_model.specs.Spelling.{constant}
 use Rattle.class_model.proofs.TextLemmas.{is_text-grammar}
 use Rattle.class_text.specs.Reading.{cut_short, bad_tag, bad_text, ◌>>=◌, place, number_at, or_cut, IsBytes}
-use Rattle.class_text.specs.Pool.{of_one, of_two, handle_at, fixed_at, is_tag, is_wide, text_of, utf8_at, constant_at}
+use Rattle.class_text.specs.Pool.{constant_of_one, constant_of_two, method_handle_at, fixed_at, is_tag, is_wide, text_behind_length, utf8_at, constant_at_front}
 use Rattle.class_text.proofs.Numbers.{IsBytes-drop, IsBytes-rest, ok_is, some_is, Takes, Takes-then, Takes-behind, IsWide, wide16, wide32, wide64, number_takes, number_again}
 
 -- a constant that was taken from the front, where so many numbers are left
@@ -24,7 +24,7 @@ pub record IsTaken (left : ℕ) (bytes : List ℕ) (c : Constant) (rest : List �
 one_taken : (left tag : ℕ) (w : Width) (limit : ℕ) (wide : IsWide w limit) (make : ℕ → Constant)
     → ((n : ℕ) → constant (make n) ≡ tag ∷ to_be_bytes w n) → ((n : ℕ) → n < limit → IsConstant (make n)) → ((n : ℕ) → is_second (make n) ≡ false)
     → ((n : ℕ) → takes_two (make n) ≡ true → 2 ≤ left)
-    → (bytes : List ℕ) (c : Constant) (rest : List ℕ) → IsBytes bytes → of_one w make bytes ≡ Some (c, rest) → IsTaken left (tag ∷ bytes) c rest
+    → (bytes : List ℕ) (c : Constant) (rest : List ℕ) → IsBytes bytes → constant_of_one w make bytes ≡ Some (c, rest) → IsTaken left (tag ∷ bytes) c rest
 one_taken left tag w limit wide make spelled fits plain room bytes c rest are e = go (number_at w bytes) refl e
   where
     go : (found : Option (ℕ × List ℕ)) → number_at w bytes ≡ found → option_map {U = Constant × List ℕ} (λ n. (make n.0, n.1)) found ≡ Some (c, rest) → IsTaken left (tag ∷ bytes) c rest
@@ -37,7 +37,7 @@ one_taken left tag w limit wide make spelled fits plain room bytes c rest are e 
 two_taken : (left tag : ℕ) (make : ℕ → ℕ → Constant)
     → ((m n : ℕ) → constant (make m n) ≡ tag ∷ to_be_bytes w16 m ++ to_be_bytes w16 n) → ((m n : ℕ) → m < 2 ^ 16 → n < 2 ^ 16 → IsConstant (make m n)) → ((m n : ℕ) → is_second (make m n) ≡ false)
     → ((m n : ℕ) → takes_two (make m n) ≡ true → 2 ≤ left)
-    → (bytes : List ℕ) (c : Constant) (rest : List ℕ) → IsBytes bytes → of_two make bytes ≡ Some (c, rest) → IsTaken left (tag ∷ bytes) c rest
+    → (bytes : List ℕ) (c : Constant) (rest : List ℕ) → IsBytes bytes → constant_of_two make bytes ≡ Some (c, rest) → IsTaken left (tag ∷ bytes) c rest
 two_taken left tag make spelled fits plain room bytes c rest are e = first (number_at w16 bytes) refl e
   where
     second : (m : ℕ) (after : List ℕ) → Takes bytes (to_be_bytes w16 m) after → m < 2 ^ 16 → (found : Option (ℕ × List ℕ)) → number_at w16 after ≡ found
@@ -55,7 +55,7 @@ two_taken left tag make spelled fits plain room bytes c rest are e = first (numb
         let t = number_takes w16 (2 ^ 16) wide16 bytes m after are at in
         second m after t.0 t.1 (number_at w16 after) refl e
 
-handle_taken : (left : ℕ) (bytes : List ℕ) (c : Constant) (rest : List ℕ) → IsBytes bytes → handle_at bytes ≡ Some (c, rest) → IsTaken left (15 ∷ bytes) c rest
+handle_taken : (left : ℕ) (bytes : List ℕ) (c : Constant) (rest : List ℕ) → IsBytes bytes → method_handle_at bytes ≡ Some (c, rest) → IsTaken left (15 ∷ bytes) c rest
 unfolding constant
 handle_taken left [] c rest are e = cc
 handle_taken left (kind ∷ bytes) c rest are e = go (number_at w16 bytes) refl e
@@ -131,7 +131,7 @@ text_taken left at bytes c rest are e = go (number_at w16 bytes) refl e
           room = λ two. absurd (let h : false ≡ true = two in cc);
         }
 
-    judged : (len : ℕ) (after : List ℕ) → Takes bytes (to_be_bytes w16 len) after → len < 2 ^ 16 → text_of at (len, after) ≡ Ok (c, rest) → IsTaken left (1 ∷ bytes) c rest
+    judged : (len : ℕ) (after : List ℕ) → Takes bytes (to_be_bytes w16 len) after → len < 2 ^ 16 → text_behind_length at (len, after) ≡ Ok (c, rest) → IsTaken left (1 ∷ bytes) c rest
     judged len after t low e = elim (cases_Bool (ltb (length after) len)) [
       | inl y ↦ absurd (let bad : Err (cut_short at) ≡ Ok (c, rest) = rw y at e in cc)
       | inr f ↦ elim (cases_Bool (is_text (take len after))) [
@@ -141,7 +141,7 @@ text_taken left at bytes c rest are e = go (number_at w16 bytes) refl e
       ]
     ]
 
-    go : (found : Option (ℕ × List ℕ)) → number_at w16 bytes ≡ found → (or_cut at found >>= text_of at) ≡ Ok (c, rest) → IsTaken left (1 ∷ bytes) c rest
+    go : (found : Option (ℕ × List ℕ)) → number_at w16 bytes ≡ found → (or_cut at found >>= text_behind_length at) ≡ Ok (c, rest) → IsTaken left (1 ∷ bytes) c rest
     go None is e = absurd cc
     go (Some (len, after)) is e =
         let t = number_takes w16 (2 ^ 16) wide16 bytes len after are is in
@@ -151,8 +151,8 @@ or_cut_ok : (at : ℕ) (found : Option (Constant × List ℕ)) (c : Constant) (r
 or_cut_ok at None c rest e = absurd cc
 or_cut_ok at (Some x) c rest e = ap (λ (q : Constant × List ℕ). Some q) (ok_is x (c, rest) e)
 
-pub constant_taken : (end left : ℕ) (bytes : List ℕ) (c : Constant) (rest : List ℕ) → IsBytes bytes → constant_at end left bytes ≡ Ok (c, rest) → IsTaken left bytes c rest
-unfolding constant_at
+pub constant_taken : (end left : ℕ) (bytes : List ℕ) (c : Constant) (rest : List ℕ) → IsBytes bytes → constant_at_front end left bytes ≡ Ok (c, rest) → IsTaken left bytes c rest
+unfolding constant_at_front
 constant_taken end left [] c rest are e = absurd cc
 constant_taken end left (tag ∷ bytes) c rest are e = elim (cases_Bool (is_tag tag)) [
   | inr f ↦ absurd (let bad : Err (bad_tag (place end (tag ∷ bytes)) tag) ≡ Ok (c, rest) = rw f at e in cc)
@@ -171,11 +171,11 @@ constant_taken end left (tag ∷ bytes) c rest are e = elim (cases_Bool (is_tag 
 -- ---- and again
 
 one_again : (at : ℕ) (w : Width) (limit : ℕ) (wide : IsWide w limit) (make : ℕ → Constant) (n : ℕ) (rest : List ℕ) → n < limit
-    → or_cut at (of_one w make (to_be_bytes w n ++ rest)) ≡ Ok (make n, rest)
+    → or_cut at (constant_of_one w make (to_be_bytes w n ++ rest)) ≡ Ok (make n, rest)
 one_again at w limit wide make n rest low = rw (number_again w limit wide n rest low) refl
 
 two_again : (at : ℕ) (make : ℕ → ℕ → Constant) (m n : ℕ) (rest : List ℕ) → m < 2 ^ 16 → n < 2 ^ 16
-    → or_cut at (of_two make (to_be_bytes w16 m ++ (to_be_bytes w16 n ++ rest))) ≡ Ok (make m n, rest)
+    → or_cut at (constant_of_two make (to_be_bytes w16 m ++ (to_be_bytes w16 n ++ rest))) ≡ Ok (make m n, rest)
 two_again at make m n rest low high =
     rw (number_again w16 (2 ^ 16) wide16 m (to_be_bytes w16 n ++ rest) low, number_again w16 (2 ^ 16) wide16 n rest high) refl
 
@@ -189,8 +189,8 @@ wide_enough : (left : ℕ) → 2 ≤ left → ltb left 2 ≡ false
 wide_enough left two = le-ltb left 2 two
 
 pub constant_again : (end left : ℕ) (c : Constant) (rest : List ℕ) → IsConstant c → is_second c ≡ false → (takes_two c ≡ true → 2 ≤ left)
-    → constant_at end left (constant c ++ rest) ≡ Ok (c, rest)
-unfolding constant_at fixed_at constant
+    → constant_at_front end left (constant c ++ rest) ≡ Ok (c, rest)
+unfolding constant_at_front fixed_at constant
 constant_again end left (Utf8 text) rest fits plain room =
     let is : is_text text ≡ true = (is_text-grammar text).1 fits.1 in
     let at = place end (1 ∷ to_be_bytes w16 (length text) ++ text ++ rest) in
@@ -202,10 +202,10 @@ constant_again end left (Double n) rest fits plain room = rw (wide_enough left (
 constant_again end left (Class n) rest fits plain room = one_again (place end (constant (Class n) ++ rest)) w16 (2 ^ 16) wide16 Class n rest fits
 constant_again end left (Text n) rest fits plain room = one_again (place end (constant (Text n) ++ rest)) w16 (2 ^ 16) wide16 Text n rest fits
 constant_again end left (Ref tag m n) rest fits plain room = elim (reference tag fits.0 fits.1) [
-  | inl e ↦ subst (λ (k : ℕ). constant_at end left (constant (Ref k m n) ++ rest) ≡ Ok (Ref k m n, rest)) (sym e) (two_again (place end (constant (Ref 9 m n) ++ rest)) (Ref 9) m n rest fits.2 fits.3)
+  | inl e ↦ subst (λ (k : ℕ). constant_at_front end left (constant (Ref k m n) ++ rest) ≡ Ok (Ref k m n, rest)) (sym e) (two_again (place end (constant (Ref 9 m n) ++ rest)) (Ref 9) m n rest fits.2 fits.3)
   | inr other ↦ elim other [
-    | inl e ↦ subst (λ (k : ℕ). constant_at end left (constant (Ref k m n) ++ rest) ≡ Ok (Ref k m n, rest)) (sym e) (two_again (place end (constant (Ref 10 m n) ++ rest)) (Ref 10) m n rest fits.2 fits.3)
-    | inr e ↦ subst (λ (k : ℕ). constant_at end left (constant (Ref k m n) ++ rest) ≡ Ok (Ref k m n, rest)) (sym e) (two_again (place end (constant (Ref 11 m n) ++ rest)) (Ref 11) m n rest fits.2 fits.3)
+    | inl e ↦ subst (λ (k : ℕ). constant_at_front end left (constant (Ref k m n) ++ rest) ≡ Ok (Ref k m n, rest)) (sym e) (two_again (place end (constant (Ref 10 m n) ++ rest)) (Ref 10) m n rest fits.2 fits.3)
+    | inr e ↦ subst (λ (k : ℕ). constant_at_front end left (constant (Ref k m n) ++ rest) ≡ Ok (Ref k m n, rest)) (sym e) (two_again (place end (constant (Ref 11 m n) ++ rest)) (Ref 11) m n rest fits.2 fits.3)
   ]
 ]
   where

@@ -18,44 +18,44 @@ use Rattle.class_model.specs.Annotations.{IsCounted, is_value_of, IsPairBy, IsNo
 use Rattle.class_model.specs.Spelling as spelling
 use Rattle.class_text.specs.Reading.{bad_tag, bad_attribute, too_deep}
 use Rattle.class_text.specs.Readers.{Reader, u1_at, index_at, counted_at}
-use Rattle.class_text.specs.Elements.{is_text, is_type, is_result, is_value, is_constant_tag, pair_by, note_by, enum_at, tagged_by, element_at, note_at}
+use Rattle.class_text.specs.Elements.{leads_to_text, leads_to_type, leads_to_result, leads_to_value_of, is_constant_tag, pair_by, note_by, enum_at, tagged_by, element_at, note_at}
 use Rattle.class_text.proofs.Steps.{constant_value, class_value, note_value, array_value, not_note, not_class, not_enum, not_constant}
 use Rattle.class_text.proofs.Readers.{Reads, as_reads, no_reads, made_reads, layer_reads, bind, bind_reads, either_reads, here_reads}
 use Rattle.class_text.proofs.Parts.{u1_reads, index_reads, each_counted}
 use Rattle.class_text.proofs.Numbered.{IsFew, some_that, numbered, numbered_text}
 
-pub text_reads : (pool : Pool) → IsFew pool → Reads (index_at (is_text pool)) (λ n. is_text pool n ≡ true) (to_be_bytes w16)
-unfolding is_text
-text_reads pool few = index_reads (is_text pool) (λ n e. numbered_text pool n few e)
+pub text_reads : (pool : Pool) → IsFew pool → Reads (index_at (leads_to_text pool)) (λ n. leads_to_text pool n ≡ true) (to_be_bytes w16)
+unfolding leads_to_text
+text_reads pool few = index_reads (leads_to_text pool) (λ n e. numbered_text pool n few e)
 
-type_reads : (pool : Pool) → IsFew pool → Reads (index_at (is_type pool)) (λ n. is_type pool n ≡ true) (to_be_bytes w16)
-unfolding is_type
-type_reads pool few = index_reads (is_type pool) (λ n e. numbered_text pool n few (some_that is_field_descriptor (text_at pool n) e))
+type_reads : (pool : Pool) → IsFew pool → Reads (index_at (leads_to_type pool)) (λ n. leads_to_type pool n ≡ true) (to_be_bytes w16)
+unfolding leads_to_type
+type_reads pool few = index_reads (leads_to_type pool) (λ n e. numbered_text pool n few (some_that is_field_descriptor (text_at pool n) e))
 
-result_reads : (pool : Pool) → IsFew pool → Reads (index_at (is_result pool)) (λ n. is_result pool n ≡ true) (to_be_bytes w16)
-unfolding is_result
-result_reads pool few = index_reads (is_result pool) (λ n e. numbered_text pool n few (some_that is_return_descriptor (text_at pool n) e))
+result_reads : (pool : Pool) → IsFew pool → Reads (index_at (leads_to_result pool)) (λ n. leads_to_result pool n ≡ true) (to_be_bytes w16)
+unfolding leads_to_result
+result_reads pool few = index_reads (leads_to_result pool) (λ n e. numbered_text pool n few (some_that is_return_descriptor (text_at pool n) e))
 
-value_reads : (pool : Pool) → IsFew pool → (tag : ℕ) → Reads (index_at (is_value pool tag)) (λ n. is_value pool tag n ≡ true) (to_be_bytes w16)
-unfolding is_value
-value_reads pool few tag = index_reads (is_value pool tag) (λ n e. numbered pool n few (some_that (is_value_of tag) (constant_at pool n) e))
+value_reads : (pool : Pool) → IsFew pool → (tag : ℕ) → Reads (index_at (leads_to_value_of pool tag)) (λ n. leads_to_value_of pool tag n ≡ true) (to_be_bytes w16)
+unfolding leads_to_value_of
+value_reads pool few tag = index_reads (leads_to_value_of pool tag) (λ n e. numbered pool n few (some_that (is_value_of tag) (constant_at pool n) e))
 
 module _ (pool : Pool) (few : IsFew pool) (value : Reader Element) (W : Element → Type 0) (s : Element → List ℕ) (values : Reads value W s) where
   pair_reads : Reads (pair_by value pool) (IsPairBy W pool) (spelling.pair_by s)
-  unfolding pair_by is_text spelling.pair_by
+  unfolding pair_by leads_to_text spelling.pair_by
   pair_reads =
-      as_reads (pair_by value pool) (λ p. (is_text pool (out-Pair p).name ≡ true) × (W (out-Pair p).value × (p ≡ roll-Pair (record { name = (out-Pair p).name; value = (out-Pair p).value })))) (λ p. to_be_bytes w16 (out-Pair p).name ++ s (out-Pair p).value) (IsPairBy W pool) (spelling.pair_by s)
-      (bind_reads (index_at (is_text pool)) (λ n. is_text pool n ≡ true) (to_be_bytes w16) (λ name. bind value (λ v end bytes. Ok (roll-Pair (record { name = name; value = v }), bytes)))
+      as_reads (pair_by value pool) (λ p. (leads_to_text pool (out-Pair p).name ≡ true) × (W (out-Pair p).value × (p ≡ roll-Pair (record { name = (out-Pair p).name; value = (out-Pair p).value })))) (λ p. to_be_bytes w16 (out-Pair p).name ++ s (out-Pair p).value) (IsPairBy W pool) (spelling.pair_by s)
+      (bind_reads (index_at (leads_to_text pool)) (λ n. leads_to_text pool n ≡ true) (to_be_bytes w16) (λ name. bind value (λ v end bytes. Ok (roll-Pair (record { name = name; value = v }), bytes)))
       (λ name p. W (out-Pair p).value × (p ≡ roll-Pair (record { name = name; value = (out-Pair p).value }))) (λ name p. s (out-Pair p).value) (λ p. (out-Pair p).name) (text_reads pool few)
       (λ name h. made_reads value W s (λ v. roll-Pair (record { name = name; value = v })) (λ p. (out-Pair p).value) (λ v. ap (λ r. r.value) (out-roll-Pair (record { name = name; value = v }))) values)
       (λ name p q. ap (λ (x : Pair). (out-Pair x).name) q.1 ∙ ap (λ r. r.name) (out-roll-Pair (record { name = name; value = (out-Pair p).value }))))
       (λ p q. record { name = q.0; value = q.1.0 }) (λ p q. (q.name, (q.value, sym (roll-out-Pair p)))) (λ p q. refl)
 
   pub note_reads : Reads (note_by value pool) (IsNoteBy W pool) (spelling.note_by s)
-  unfolding note_by is_type spelling.note_by
+  unfolding note_by leads_to_type spelling.note_by
   note_reads =
-      as_reads (note_by value pool) (λ n. (is_type pool (out-Note n).kind ≡ true) × (IsCounted (IsPairBy W pool) (out-Note n).pairs × (n ≡ roll-Note (record { kind = (out-Note n).kind; pairs = (out-Note n).pairs })))) (λ n. to_be_bytes w16 (out-Note n).kind ++ spelling.counted (spelling.pair_by s) (out-Note n).pairs) (IsNoteBy W pool) (spelling.note_by s)
-      (bind_reads (index_at (is_type pool)) (λ n. is_type pool n ≡ true) (to_be_bytes w16) (λ kind. bind (counted_at (pair_by value pool)) (λ v end bytes. Ok (roll-Note (record { kind = kind; pairs = v }), bytes)))
+      as_reads (note_by value pool) (λ n. (leads_to_type pool (out-Note n).kind ≡ true) × (IsCounted (IsPairBy W pool) (out-Note n).pairs × (n ≡ roll-Note (record { kind = (out-Note n).kind; pairs = (out-Note n).pairs })))) (λ n. to_be_bytes w16 (out-Note n).kind ++ spelling.counted (spelling.pair_by s) (out-Note n).pairs) (IsNoteBy W pool) (spelling.note_by s)
+      (bind_reads (index_at (leads_to_type pool)) (λ n. leads_to_type pool n ≡ true) (to_be_bytes w16) (λ kind. bind (counted_at (pair_by value pool)) (λ v end bytes. Ok (roll-Note (record { kind = kind; pairs = v }), bytes)))
       (λ kind n. IsCounted (IsPairBy W pool) (out-Note n).pairs × (n ≡ roll-Note (record { kind = kind; pairs = (out-Note n).pairs }))) (λ kind n. spelling.counted (spelling.pair_by s) (out-Note n).pairs) (λ n. (out-Note n).kind) (type_reads pool few)
       (λ kind h. made_reads (counted_at (pair_by value pool)) (IsCounted (IsPairBy W pool)) (spelling.counted (spelling.pair_by s)) (λ v. roll-Note (record { kind = kind; pairs = v })) (λ n. (out-Note n).pairs) (λ v. ap (λ r. r.pairs) (out-roll-Note (record { kind = kind; pairs = v })))
       (each_counted (pair_by value pool) (IsPairBy W pool) (spelling.pair_by s) pair_reads))
@@ -140,26 +140,26 @@ module _ (pool : Pool) (few : IsFew pool) (value : Reader Element) (W : Element 
   apart : {P : Type 0} (tag k m : ℕ) → eqb tag k ≡ true → eqb m k ≡ false → m ≡ tag → P
   apart tag k m y n e = absurd (let h : false ≡ true = sym n ∙ ap (λ x. eqb x k) e ∙ y in cc)
 
-  constants : (tag : ℕ) → is_constant_tag tag ≡ true → Reads (bind (index_at (is_value pool tag)) (λ n end bytes. Ok (roll-Element (Element-F.Const tag n), bytes))) (Q tag) t
-  unfolding IsTagged tag_of rest_of is_value index_of
+  constants : (tag : ℕ) → is_constant_tag tag ≡ true → Reads (bind (index_at (leads_to_value_of pool tag)) (λ n end bytes. Ok (roll-Element (Element-F.Const tag n), bytes))) (Q tag) t
+  unfolding IsTagged tag_of rest_of leads_to_value_of index_of
   constants tag is =
-      layer_reads roll-Element out-Element out-roll-Element roll-out-Element (index_at (is_value pool tag)) (λ n. is_value pool tag n ≡ true) (to_be_bytes w16) (Element-F.Const tag) index_of (λ n. refl) (IsTagged W pool tag) (rest_of s) (value_reads pool few tag)
+      layer_reads roll-Element out-Element out-roll-Element roll-out-Element (index_at (leads_to_value_of pool tag)) (λ n. leads_to_value_of pool tag n ≡ true) (to_be_bytes w16) (Element-F.Const tag) index_of (λ n. refl) (IsTagged W pool tag) (rest_of s) (value_reads pool few tag)
       (λ n h. (refl, h)) from (λ n h. refl)
     where
-      from : (l : ElementLayer) → IsTagged W pool tag l → (is_value pool tag (index_of l) ≡ true) × (l ≡ Element-F.Const tag (index_of l))
-      from (Element-F.Const k index) q = (subst (λ (n : ℕ). is_value pool n index ≡ true) q.0 q.1, ap (λ (n : ℕ). Element-F.Const n index) q.0)
+      from : (l : ElementLayer) → IsTagged W pool tag l → (leads_to_value_of pool tag (index_of l) ≡ true) × (l ≡ Element-F.Const tag (index_of l))
+      from (Element-F.Const k index) q = (subst (λ (n : ℕ). leads_to_value_of pool n index ≡ true) q.0 q.1, ap (λ (n : ℕ). Element-F.Const n index) q.0)
       from (Element-F.Enum kind name) q = other_tag tag (byte "e") is refl q.0
       from (Element-F.OfClass class) q = other_tag tag (byte "c") is refl q.0
       from (Element-F.Nested note) q = other_tag tag (byte "@") is refl q.0
       from (Element-F.Many vs) q = other_tag tag (byte "[") is refl q.0
 
-  classes : (tag : ℕ) → is_constant_tag tag ≡ false → eqb tag (byte "c") ≡ true → Reads (bind (index_at (is_result pool)) (λ n end bytes. Ok (roll-Element (Element-F.OfClass n), bytes))) (Q tag) t
-  unfolding IsTagged tag_of rest_of is_result index_of
+  classes : (tag : ℕ) → is_constant_tag tag ≡ false → eqb tag (byte "c") ≡ true → Reads (bind (index_at (leads_to_result pool)) (λ n end bytes. Ok (roll-Element (Element-F.OfClass n), bytes))) (Q tag) t
+  unfolding IsTagged tag_of rest_of leads_to_result index_of
   classes tag no_constant is =
-      layer_reads roll-Element out-Element out-roll-Element roll-out-Element (index_at (is_result pool)) (λ n. is_result pool n ≡ true) (to_be_bytes w16) Element-F.OfClass index_of (λ n. refl) (IsTagged W pool tag) (rest_of s) (result_reads pool few)
+      layer_reads roll-Element out-Element out-roll-Element roll-out-Element (index_at (leads_to_result pool)) (λ n. leads_to_result pool n ≡ true) (to_be_bytes w16) Element-F.OfClass index_of (λ n. refl) (IsTagged W pool tag) (rest_of s) (result_reads pool few)
       (λ n h. (sym (eqb-true tag (byte "c") is), h)) from (λ n h. refl)
     where
-      from : (l : ElementLayer) → IsTagged W pool tag l → (is_result pool (index_of l) ≡ true) × (l ≡ Element-F.OfClass (index_of l))
+      from : (l : ElementLayer) → IsTagged W pool tag l → (leads_to_result pool (index_of l) ≡ true) × (l ≡ Element-F.OfClass (index_of l))
       from (Element-F.Const k index) q = absurd (let h : false ≡ true = sym no_constant ∙ ap is_constant_tag (sym q.0) ∙ value_tag_some pool k index q.1 in cc)
       from (Element-F.Enum kind name) q = apart tag (byte "c") (byte "e") is refl q.0
       from (Element-F.OfClass class) q = (q.1, refl)
@@ -193,19 +193,19 @@ module _ (pool : Pool) (few : IsFew pool) (value : Reader Element) (W : Element 
       from (Element-F.Many vs) q = (q.1, refl)
 
   enums : (tag : ℕ) → is_constant_tag tag ≡ false → eqb tag (byte "e") ≡ true → Reads (enum_at pool) (Q tag) t
-  unfolding IsTagged tag_of rest_of is_type is_text enum_at index_of name_of
+  unfolding IsTagged tag_of rest_of leads_to_type leads_to_text enum_at index_of name_of
   enums tag no_constant is =
-      as_reads (enum_at pool) (λ e. (is_type pool (index_of (out-Element e)) ≡ true) × ((is_text pool (name_of (out-Element e)) ≡ true) × (e ≡ roll-Element (Element-F.Enum (index_of (out-Element e)) (name_of (out-Element e)))))) (λ e. to_be_bytes w16 (index_of (out-Element e)) ++ to_be_bytes w16 (name_of (out-Element e))) (Q tag) t
-      (bind_reads (index_at (is_type pool)) (λ n. is_type pool n ≡ true) (to_be_bytes w16) (λ kind. bind (index_at (is_text pool)) (λ name end bytes. Ok (roll-Element (Element-F.Enum kind name), bytes)))
-      (λ kind e. (is_text pool (name_of (out-Element e)) ≡ true) × (e ≡ roll-Element (Element-F.Enum kind (name_of (out-Element e))))) (λ kind e. to_be_bytes w16 (name_of (out-Element e))) (λ e. index_of (out-Element e)) (type_reads pool few)
-      (λ kind h. made_reads (index_at (is_text pool)) (λ n. is_text pool n ≡ true) (to_be_bytes w16) (λ name. roll-Element (Element-F.Enum kind name)) (λ e. name_of (out-Element e)) (λ name. ap name_of (out-roll-Element (Element-F.Enum kind name))) (text_reads pool few))
+      as_reads (enum_at pool) (λ e. (leads_to_type pool (index_of (out-Element e)) ≡ true) × ((leads_to_text pool (name_of (out-Element e)) ≡ true) × (e ≡ roll-Element (Element-F.Enum (index_of (out-Element e)) (name_of (out-Element e)))))) (λ e. to_be_bytes w16 (index_of (out-Element e)) ++ to_be_bytes w16 (name_of (out-Element e))) (Q tag) t
+      (bind_reads (index_at (leads_to_type pool)) (λ n. leads_to_type pool n ≡ true) (to_be_bytes w16) (λ kind. bind (index_at (leads_to_text pool)) (λ name end bytes. Ok (roll-Element (Element-F.Enum kind name), bytes)))
+      (λ kind e. (leads_to_text pool (name_of (out-Element e)) ≡ true) × (e ≡ roll-Element (Element-F.Enum kind (name_of (out-Element e))))) (λ kind e. to_be_bytes w16 (name_of (out-Element e))) (λ e. index_of (out-Element e)) (type_reads pool few)
+      (λ kind h. made_reads (index_at (leads_to_text pool)) (λ n. leads_to_text pool n ≡ true) (to_be_bytes w16) (λ name. roll-Element (Element-F.Enum kind name)) (λ e. name_of (out-Element e)) (λ name. ap name_of (out-roll-Element (Element-F.Enum kind name))) (text_reads pool few))
       (λ kind e q. ap (λ (x : Element). index_of (out-Element x)) q.1 ∙ ap index_of (out-roll-Element (Element-F.Enum kind (name_of (out-Element e))))))
       (λ e p. let opened = ap out-Element p.1.1 ∙ out-roll-Element (Element-F.Enum (index_of (out-Element e)) (name_of (out-Element e))) in
       subst (IsTagged W pool tag) (sym opened) (sym (eqb-true tag (byte "e") is), (p.0, p.1.0)))
       (λ e q. let f = from (out-Element e) q in (f.0, (f.1, sym (roll-out-Element e) ∙ ap roll-Element f.2)))
       (λ e q. let f = from (out-Element e) q in ap (rest_of s) (sym f.2))
     where
-      from : (l : ElementLayer) → IsTagged W pool tag l → (is_type pool (index_of l) ≡ true) × (is_text pool (name_of l) ≡ true) × (l ≡ Element-F.Enum (index_of l) (name_of l))
+      from : (l : ElementLayer) → IsTagged W pool tag l → (leads_to_type pool (index_of l) ≡ true) × (leads_to_text pool (name_of l) ≡ true) × (l ≡ Element-F.Enum (index_of l) (name_of l))
       from (Element-F.Const k index) q = absurd (let h : false ≡ true = sym no_constant ∙ ap is_constant_tag (sym q.0) ∙ value_tag_some pool k index q.1 in cc)
       from (Element-F.Enum kind name) q = (q.1.0, q.1.1, refl)
       from (Element-F.OfClass class) q = apart tag (byte "e") (byte "c") is refl q.0

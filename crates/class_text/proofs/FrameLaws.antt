@@ -13,15 +13,15 @@ use Rattle.class_model.specs.Attributes.{IsFrameType, IsFrame, has_layout}
 use Rattle.class_model.specs.Spelling.{frame_type, frame, counted}
 use Rattle.class_text.specs.Reading.{bad_tag}
 use Rattle.class_text.specs.Readers.{u1_at, u2_at, index_at, many_at, counted_at}
-use Rattle.class_text.specs.Frames.{is_class, type_of, typed_at, frame_type_at, frame_of, with_item_at, with_locals_at, full_at, behind_delta_at, framed_at, frame_at}
+use Rattle.class_text.specs.Frames.{leads_to_class, frame_type_of, typed_at, frame_type_at, frame_of, with_item_at, with_locals_at, full_at, behind_delta_at, framed_at, frame_at}
 use Rattle.class_text.proofs.Steps.{class_type, new_type, not_chop, not_far_item, not_item, not_same}
 use Rattle.class_text.proofs.Readers.{Reads, as_reads, give_reads, no_reads, made_reads, bind, bind_reads, either_reads, here_reads}
 use Rattle.class_text.proofs.Parts.{u1_reads, u2_reads, index_reads, many_reads, each_counted, AllAfter, all_each, all_after}
 use Rattle.class_text.proofs.Numbered.{IsFew, some_that, numbered}
 
-class_reads : (pool : Pool) → IsFew pool → Reads (index_at (is_class pool)) (λ n. is_class pool n ≡ true) (to_be_bytes w16)
-unfolding is_class
-class_reads pool few = index_reads (is_class pool) (λ n e. numbered pool n few (some_that is_class_constant (constant_at pool n) e))
+class_reads : (pool : Pool) → IsFew pool → Reads (index_at (leads_to_class pool)) (λ n. leads_to_class pool n ≡ true) (to_be_bytes w16)
+unfolding leads_to_class
+class_reads pool few = index_reads (leads_to_class pool) (λ n e. numbered pool n few (some_that is_class_constant (constant_at pool n) e))
 
 -- what a type has behind its tag
 behind_tag : FrameType → List ℕ
@@ -30,10 +30,10 @@ behind_tag t = cond (ltb t.tag 7) [] (to_be_bytes w16 t.index)
 IsTyped : Pool → ℕ → FrameType → Type 0
 IsTyped pool tag t = (t.tag ≡ tag) × IsFrameType pool t
 
-type_is : (t : FrameType) (tag index : ℕ) → t.tag ≡ tag → t.index ≡ index → t ≡ type_of tag index
-type_is t tag index e f = ap (λ n. type_of n t.index) e ∙ ap (type_of tag) f
+type_is : (t : FrameType) (tag index : ℕ) → t.tag ≡ tag → t.index ≡ index → t ≡ frame_type_of tag index
+type_is t tag index e f = ap (λ n. frame_type_of n t.index) e ∙ ap (frame_type_of tag) f
 
-plain_type : (pool : Pool) (tag : ℕ) (t : FrameType) → ltb tag 7 ≡ true → IsTyped pool tag t → t ≡ type_of tag 0
+plain_type : (pool : Pool) (tag : ℕ) (t : FrameType) → ltb tag 7 ≡ true → IsTyped pool tag t → t ≡ frame_type_of tag 0
 unfolding IsTyped
 plain_type pool tag t low q =
     let seven : eqb tag 7 ≡ false = grind (arith, nat_tests) in
@@ -41,7 +41,7 @@ plain_type pool tag t low q =
     let none : eqb t.index 0 ≡ true = rw (q.0, seven, eight) at q.1.index in
     type_is t tag 0 q.0 (eqb-true t.index 0 none)
 
-plain_typed : (pool : Pool) (tag : ℕ) → ltb tag 7 ≡ true → IsTyped pool tag (type_of tag 0)
+plain_typed : (pool : Pool) (tag : ℕ) → ltb tag 7 ≡ true → IsTyped pool tag (frame_type_of tag 0)
 unfolding IsTyped
 plain_typed pool tag low =
     let seven : eqb tag 7 ≡ false = grind (arith, nat_tests) in
@@ -49,18 +49,18 @@ plain_typed pool tag low =
     let small : tag < 7 = ltb-true tag 7 low in
     (refl, record { tag = omega arith; index = rw (seven, eight) refl })
 
-class_typed : (pool : Pool) (tag : ℕ) (t : FrameType) → eqb tag 7 ≡ true → is_class pool t.index ≡ true → t ≡ type_of tag t.index → IsTyped pool tag t
-unfolding IsTyped is_class
+class_typed : (pool : Pool) (tag : ℕ) (t : FrameType) → eqb tag 7 ≡ true → leads_to_class pool t.index ≡ true → t ≡ frame_type_of tag t.index → IsTyped pool tag t
+unfolding IsTyped leads_to_class
 class_typed pool tag t seven leads e =
     let same : t.tag ≡ tag = ap (λ (x : FrameType). x.tag) e in
     let is : tag ≡ 7 = eqb-true tag 7 seven in
     (same, record { tag = omega arith; index = rw (same, seven) leads })
 
-typed_class : (pool : Pool) (tag : ℕ) (t : FrameType) → eqb tag 7 ≡ true → IsTyped pool tag t → (is_class pool t.index ≡ true) × (t ≡ type_of tag t.index)
-unfolding IsTyped is_class
+typed_class : (pool : Pool) (tag : ℕ) (t : FrameType) → eqb tag 7 ≡ true → IsTyped pool tag t → (leads_to_class pool t.index ≡ true) × (t ≡ frame_type_of tag t.index)
+unfolding IsTyped leads_to_class
 typed_class pool tag t seven q = (rw (q.0, seven) at q.1.index, type_is t tag t.index q.0 refl)
 
-new_typed : (pool : Pool) (tag : ℕ) (t : FrameType) → eqb tag 8 ≡ true → t.index < 2 ^ 16 → t ≡ type_of tag t.index → IsTyped pool tag t
+new_typed : (pool : Pool) (tag : ℕ) (t : FrameType) → eqb tag 8 ≡ true → t.index < 2 ^ 16 → t ≡ frame_type_of tag t.index → IsTyped pool tag t
 unfolding IsTyped
 new_typed pool tag t eight low e =
     let same : t.tag ≡ tag = ap (λ (x : FrameType). x.tag) e in
@@ -69,7 +69,7 @@ new_typed pool tag t eight low e =
     let small : ltb t.index (2 ^ 16) ≡ true = grind (arith, nat_tests) in
     (same, record { tag = omega arith; index = rw (same, seven, eight) small })
 
-typed_new : (pool : Pool) (tag : ℕ) (t : FrameType) → eqb tag 8 ≡ true → IsTyped pool tag t → (t.index < 2 ^ 16) × (t ≡ type_of tag t.index)
+typed_new : (pool : Pool) (tag : ℕ) (t : FrameType) → eqb tag 8 ≡ true → IsTyped pool tag t → (t.index < 2 ^ 16) × (t ≡ frame_type_of tag t.index)
 unfolding IsTyped
 typed_new pool tag t eight q =
     let is : tag ≡ 8 = eqb-true tag 8 eight in
@@ -91,16 +91,16 @@ behind_some pool tag t high q = rw (q.0, high) refl
 typed_reads : (pool : Pool) → IsFew pool → (at tag : ℕ) → Reads (typed_at pool at tag) (IsTyped pool tag) behind_tag
 unfolding typed_at
 typed_reads pool few at tag =
-    either_reads (ltb tag 7) (λ end bytes. Ok (type_of tag 0, bytes)) (λ end bytes. cond (eqb tag 7) (class_type pool tag end bytes) (cond (eqb tag 8) (new_type tag end bytes) (Err (bad_tag at tag)))) (IsTyped pool tag) behind_tag
-    (λ low. as_reads (λ end bytes. Ok (type_of tag 0, bytes)) (λ t. t ≡ type_of tag 0) (λ t. []) (IsTyped pool tag) behind_tag (give_reads (type_of tag 0))
+    either_reads (ltb tag 7) (λ end bytes. Ok (frame_type_of tag 0, bytes)) (λ end bytes. cond (eqb tag 7) (class_type pool tag end bytes) (cond (eqb tag 8) (new_type tag end bytes) (Err (bad_tag at tag)))) (IsTyped pool tag) behind_tag
+    (λ low. as_reads (λ end bytes. Ok (frame_type_of tag 0, bytes)) (λ t. t ≡ frame_type_of tag 0) (λ t. []) (IsTyped pool tag) behind_tag (give_reads (frame_type_of tag 0))
     (λ t e. subst (IsTyped pool tag) (sym e) (plain_typed pool tag low)) (λ t q. plain_type pool tag t low q) (λ t q. behind_none pool tag t low q))
     (λ high. either_reads (eqb tag 7) (class_type pool tag) (λ end bytes. cond (eqb tag 8) (new_type tag end bytes) (Err (bad_tag at tag))) (IsTyped pool tag) behind_tag
-    (λ seven. as_reads (class_type pool tag) (λ t. (is_class pool t.index ≡ true) × (t ≡ type_of tag t.index)) (λ t. to_be_bytes w16 t.index) (IsTyped pool tag) behind_tag
-    (made_reads (index_at (is_class pool)) (λ n. is_class pool n ≡ true) (to_be_bytes w16) (type_of tag) (λ t. t.index) (λ n. refl) (class_reads pool few))
+    (λ seven. as_reads (class_type pool tag) (λ t. (leads_to_class pool t.index ≡ true) × (t ≡ frame_type_of tag t.index)) (λ t. to_be_bytes w16 t.index) (IsTyped pool tag) behind_tag
+    (made_reads (index_at (leads_to_class pool)) (λ n. leads_to_class pool n ≡ true) (to_be_bytes w16) (frame_type_of tag) (λ t. t.index) (λ n. refl) (class_reads pool few))
     (λ t p. class_typed pool tag t seven p.0 p.1) (λ t q. typed_class pool tag t seven q) (λ t q. behind_some pool tag t high q))
     (λ not_seven. either_reads (eqb tag 8) (new_type tag) (λ end bytes. Err (bad_tag at tag)) (IsTyped pool tag) behind_tag
-    (λ eight. as_reads (new_type tag) (λ t. (t.index < 2 ^ 16) × (t ≡ type_of tag t.index)) (λ t. to_be_bytes w16 t.index) (IsTyped pool tag) behind_tag
-    (made_reads u2_at (λ n. n < 2 ^ 16) (to_be_bytes w16) (type_of tag) (λ t. t.index) (λ n. refl) u2_reads)
+    (λ eight. as_reads (new_type tag) (λ t. (t.index < 2 ^ 16) × (t ≡ frame_type_of tag t.index)) (λ t. to_be_bytes w16 t.index) (IsTyped pool tag) behind_tag
+    (made_reads u2_at (λ n. n < 2 ^ 16) (to_be_bytes w16) (frame_type_of tag) (λ t. t.index) (λ n. refl) u2_reads)
     (λ t p. new_typed pool tag t eight p.0 p.1) (λ t q. typed_new pool tag t eight q) (λ t q. behind_some pool tag t high q))
     (λ not_eight. no_reads (bad_tag at tag) (IsTyped pool tag) behind_tag (λ t q. untyped pool tag t high not_seven not_eight q))))
 

@@ -8,8 +8,8 @@ use Rattle.class_model.specs.Attributes.{Place, is_known, attribute_name, IsAttr
 use Rattle.class_model.specs.Spelling as spelling
 use Rattle.class_text.specs.Reading.{bad_attribute, barred_code, second_attribute}
 use Rattle.class_text.specs.Readers.{Reader, u4_at, index_at, counted_after, within}
-use Rattle.class_text.specs.Elements.{is_text}
-use Rattle.class_text.specs.Attributes.{text_of, is_first, named_at, attribute_by}
+use Rattle.class_text.specs.Elements.{leads_to_text}
+use Rattle.class_text.specs.Attributes.{text_or_empty, is_first, named_at, attribute_by}
 use Rattle.class_text.proofs.Readers.{Reads, ReadsAll, as_reads, give_reads, bind, bind_reads, unless_reads, except_reads, here_reads}
 use Rattle.class_text.proofs.Steps.{judged}
 use Rattle.class_text.proofs.Parts.{u4_reads, counted_reads, within_reads, AllAfter, all_split, all_joined, all_as, all_mapped, all_unmapped}
@@ -26,8 +26,8 @@ abbrev pub is_code_barred : Pool → Bool → Attribute → Bool
 is_code_barred pool barred a = barred && bytes_eq (codes "Code") (attribute_name pool a)
 
 module _ (pool : Pool) (few : IsFew pool) (stand : Place) (barred : Bool) (content : ℕ → ℕ → Reader Attribute) (Form : Attribute → Type 0) (s : Attribute → List ℕ)
-    (contents : (name at : ℕ) → is_text pool name ≡ true → ReadsAll (content name at) (λ a. (spelling.name_of (out-Attribute a) ≡ name) × Form a) s)
-    (has_name : (a : Attribute) → Form a → is_text pool (spelling.name_of (out-Attribute a)) ≡ true) where
+    (contents : (name at : ℕ) → leads_to_text pool name ≡ true → ReadsAll (content name at) (λ a. (spelling.name_of (out-Attribute a) ≡ name) × Form a) s)
+    (has_name : (a : Attribute) → Form a → leads_to_text pool (spelling.name_of (out-Attribute a)) ≡ true) where
   abbrev name : Attribute → ℕ
   name a = spelling.name_of (out-Attribute a)
 
@@ -44,26 +44,26 @@ module _ (pool : Pool) (few : IsFew pool) (stand : Place) (barred : Bool) (conte
   sized : ℕ → ℕ → Reader Attribute
   sized n at = bind u4_at (λ len. within at len (content n at))
 
-  sized_reads : (n at : ℕ) → is_text pool n ≡ true → Reads (sized n at) (λ a. (length (s a) < 2 ^ 32) × (((name a ≡ n) × Form a) × (length (s a) ≡ length (s a)))) (λ a. to_be_bytes w32 (length (s a)) ++ s a)
+  sized_reads : (n at : ℕ) → leads_to_text pool n ≡ true → Reads (sized n at) (λ a. (length (s a) < 2 ^ 32) × (((name a ≡ n) × Form a) × (length (s a) ≡ length (s a)))) (λ a. to_be_bytes w32 (length (s a)) ++ s a)
   unfolding sized
   sized_reads n at named =
       bind_reads u4_at (λ len. len < 2 ^ 32) (to_be_bytes w32) (λ len. within at len (content n at)) (λ len a. ((name a ≡ n) × Form a) × (length (s a) ≡ len)) (λ len. s) (λ a. length (s a))
       u4_reads (λ len low. within_reads at len (content n at) (λ a. (name a ≡ n) × Form a) s (contents n at named)) (λ len a q. q.1)
 
   abbrev pub IsNew : List Attribute → ℕ → Type 0
-  IsNew before n = (is_text pool n ≡ true) × ((is_first (is_known stand) bytes_eq (map (attribute_name pool) before) (text_of pool n) ≡ true) × ((barred && bytes_eq (codes "Code") (text_of pool n)) ≡ false))
+  IsNew before n = (leads_to_text pool n ≡ true) × ((is_first (is_known stand) bytes_eq (map (attribute_name pool) before) (text_or_empty pool n) ≡ true) × ((barred && bytes_eq (codes "Code") (text_or_empty pool n)) ≡ false))
 
-  judged_reads : (before : List Attribute) (at n : ℕ) → Reads (judged pool stand barred before at n) (λ m. (is_first (is_known stand) bytes_eq (map (attribute_name pool) before) (text_of pool n) ≡ true) × (((barred && bytes_eq (codes "Code") (text_of pool n)) ≡ false) × (m ≡ n))) (λ m. [])
+  judged_reads : (before : List Attribute) (at n : ℕ) → Reads (judged pool stand barred before at n) (λ m. (is_first (is_known stand) bytes_eq (map (attribute_name pool) before) (text_or_empty pool n) ≡ true) × (((barred && bytes_eq (codes "Code") (text_or_empty pool n)) ≡ false) × (m ≡ n))) (λ m. [])
   judged_reads before at n =
-      unless_reads (is_first (is_known stand) bytes_eq (map (attribute_name pool) before) (text_of pool n)) (second_attribute at) (λ end bytes. cond (barred && bytes_eq (codes "Code") (text_of pool n)) (Err (bad_attribute at barred_code)) (Ok (n, bytes))) _ _
-      (λ first. except_reads (barred && bytes_eq (codes "Code") (text_of pool n)) (bad_attribute at barred_code) (λ end bytes. Ok (n, bytes)) (λ m. m ≡ n) (λ m. []) (λ plain. give_reads n))
+      unless_reads (is_first (is_known stand) bytes_eq (map (attribute_name pool) before) (text_or_empty pool n)) (second_attribute at) (λ end bytes. cond (barred && bytes_eq (codes "Code") (text_or_empty pool n)) (Err (bad_attribute at barred_code)) (Ok (n, bytes))) _ _
+      (λ first. except_reads (barred && bytes_eq (codes "Code") (text_or_empty pool n)) (bad_attribute at barred_code) (λ end bytes. Ok (n, bytes)) (λ m. m ≡ n) (λ m. []) (λ plain. give_reads n))
 
   pub named_reads : (before : List Attribute) → Reads (named_at pool stand barred before) (IsNew before) (to_be_bytes w16)
   unfolding named_at
   named_reads before =
-      here_reads (λ at. bind (index_at (is_text pool)) (judged pool stand barred before at)) (IsNew before) (to_be_bytes w16) (λ at.
-      as_reads (bind (index_at (is_text pool)) (judged pool stand barred before at)) _ _ (IsNew before) (to_be_bytes w16)
-      (bind_reads (index_at (is_text pool)) (λ n. is_text pool n ≡ true) (to_be_bytes w16) (judged pool stand barred before at) (λ n m. (is_first (is_known stand) bytes_eq (map (attribute_name pool) before) (text_of pool n) ≡ true) × (((barred && bytes_eq (codes "Code") (text_of pool n)) ≡ false) × (m ≡ n))) (λ n m. []) (λ m. m)
+      here_reads (λ at. bind (index_at (leads_to_text pool)) (judged pool stand barred before at)) (IsNew before) (to_be_bytes w16) (λ at.
+      as_reads (bind (index_at (leads_to_text pool)) (judged pool stand barred before at)) _ _ (IsNew before) (to_be_bytes w16)
+      (bind_reads (index_at (leads_to_text pool)) (λ n. leads_to_text pool n ≡ true) (to_be_bytes w16) (judged pool stand barred before at) (λ n m. (is_first (is_known stand) bytes_eq (map (attribute_name pool) before) (text_or_empty pool n) ≡ true) × (((barred && bytes_eq (codes "Code") (text_or_empty pool n)) ≡ false) × (m ≡ n))) (λ n m. []) (λ m. m)
       (text_reads pool few) (λ n named. judged_reads before at n) (λ n m q. q.1.1))
       (λ n p. (p.0, (p.1.0, p.1.1.0))) (λ n q. (q.0, (q.1.0, (q.1.1, refl)))) (λ n q. append-nil (to_be_bytes w16 n)))
 

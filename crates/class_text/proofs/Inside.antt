@@ -3,7 +3,7 @@ use Rattle.std.proofs.Common.{◌≡◌, ℕ, zero, suc, eqb, ltb, ◌+◌, ◌^
 use Rattle.std.specs.Int.{Width, w16, w32, to_be_bytes}
 use Rattle.std.proofs.lemmas.Bool.{cases_Bool}
 use Rattle.std.proofs.lemmas.List.{length-append}
-use Rattle.class_text.specs.Reading.{Fault, cut_short, astray, bad_attribute, cut_within, goes_on, bytes_left, place_of, is_cut, Reading, place, number_at, IsBytes}
+use Rattle.class_text.specs.Reading.{Fault, cut_short, astray, bad_attribute, cut_within, goes_on, bytes_left, fault_place, is_cut, Reading, place, number_at, IsBytes}
 use Rattle.class_text.specs.Readers.{Reader, u1_at, u2_at, u4_at, index_at, many_after, counted_at, counted_after, run_at, whole, within}
 use Rattle.class_text.proofs.Numbers.{bind_ok, ok_is}
 use Rattle.class_text.proofs.Places.{Failed, first, later, bind_err, err_is, cut_fault}
@@ -14,14 +14,14 @@ use Rattle.class_text.proofs.Parts.{wide_at, u1_reads, u2_reads, u4_reads, run_r
 abbrev pub IsInside : ℕ → Fault → Type 0
 IsInside end (cut_short at) = at ≤ end
 IsInside end (bytes_left at) = ⊥
-IsInside end fault = place_of fault < end
+IsInside end fault = fault_place fault < end
 
-pub inside_cut : (end : ℕ) (f : Fault) → IsInside end f → place_of f ≤ end
+pub inside_cut : (end : ℕ) (f : Fault) → IsInside end f → fault_place f ≤ end
 inside_cut end (cut_short at) is = is
 inside_cut end (bytes_left at) is = absurd is
 inside_cut end f is = omega (arith, is)
 
-pub inside_strict : (end : ℕ) (f : Fault) → is_cut f ≡ false → IsInside end f → place_of f < end
+pub inside_strict : (end : ℕ) (f : Fault) → is_cut f ≡ false → IsInside end f → fault_place f < end
 inside_strict end (cut_short at) plain is = absurd cc
 inside_strict end (bytes_left at) plain is = absurd is
 inside_strict end f plain is = is
@@ -210,7 +210,7 @@ within_inside {A = A} at len inner r = record { faults = fault; rest = left }
           | inr g ↦ subst (IsInside end) (err_is {A = A × List ℕ} (bad_attribute at (goes_on (place (place end rest) x.1) (place end rest))) f (rw g at e)) (omega (arith, room))
         ]
         judged rest (Err g) on e = elim (cases_Bool (is_cut g)) [
-          | inl y ↦ subst (IsInside end) (err_is {A = A × List ℕ} (bad_attribute at (cut_within (place_of g) (place end rest))) f (rw y at e)) (omega (arith, room))
+          | inl y ↦ subst (IsInside end) (err_is {A = A × List ℕ} (bad_attribute at (cut_within (fault_place g) (place end rest))) f (rw y at e)) (omega (arith, room))
           | inr n ↦ subst (IsInside end) (err_is {A = A × List ℕ} g f (rw n at e)) (wider (place end rest) end g (omega arith) (on g refl))
         ]
 

@@ -16,9 +16,9 @@ use Rattle.class_model.specs.Shape.{are_same, most_slots, is_code_layer, has_cod
 use Rattle.class_model.specs.Spelling as spelling
 use Rattle.class_text.specs.Reading.{code_missing}
 use Rattle.class_text.specs.Readers.{Reader, u2_at, index_at, counted_after}
-use Rattle.class_text.specs.Elements.{is_text}
-use Rattle.class_text.specs.Attributes.{text_of, is_first, attributes_at}
-use Rattle.class_text.specs.Classes.{is_new, is_field_name, is_name_of_method, is_field_type, is_method_type, is_barred, field_at, method_at}
+use Rattle.class_text.specs.Elements.{leads_to_text}
+use Rattle.class_text.specs.Attributes.{text_or_empty, is_first, attributes_at}
+use Rattle.class_text.specs.Classes.{is_new, leads_to_field_name, leads_to_method_name, leads_to_field_type, leads_to_method_type, is_barred, field_at, method_at}
 use Rattle.class_text.proofs.Readers.{Reads, as_reads, give_reads, made_reads, bind, bind_reads, unless_reads, here_reads}
 use Rattle.class_text.proofs.Steps.{member_of, field_attributes, field_type, field_name, method_code, method_attributes, method_type, method_name}
 use Rattle.class_text.proofs.Parts.{u2_reads, index_reads, counted_reads, AllAfter, all_split, all_joined}
@@ -34,22 +34,22 @@ is_other_member pool before m = is_first (λ m. true) (are_same pool) before m
 -- ---- fields
 
 module _ (pool : Pool) (few : IsFew pool) (before : List Member) where
-  pub field_names : Reads (index_at (is_field_name pool)) (λ n. is_field_name pool n ≡ true) (to_be_bytes w16)
-  unfolding is_field_name
-  field_names = index_reads (is_field_name pool) (λ n e. numbered_text pool n few (some_that is_unqualified (text_at pool n) e))
+  pub field_names : Reads (index_at (leads_to_field_name pool)) (λ n. leads_to_field_name pool n ≡ true) (to_be_bytes w16)
+  unfolding leads_to_field_name
+  field_names = index_reads (leads_to_field_name pool) (λ n e. numbered_text pool n few (some_that is_unqualified (text_at pool n) e))
 
-  pub field_types : (name : ℕ) → Reads (index_at (is_field_type pool before name)) (λ n. is_field_type pool before name n ≡ true) (to_be_bytes w16)
-  unfolding is_field_type
-  field_types name = index_reads (is_field_type pool before name) (λ n e. numbered_text pool n few (some_that is_field_descriptor (text_at pool n) (and_parts (is_some_that is_field_descriptor (text_at pool n)) (is_new pool before name n) e).0))
+  pub field_types : (name : ℕ) → Reads (index_at (leads_to_field_type pool before name)) (λ n. leads_to_field_type pool before name n ≡ true) (to_be_bytes w16)
+  unfolding leads_to_field_type
+  field_types name = index_reads (leads_to_field_type pool before name) (λ n e. numbered_text pool n few (some_that is_field_descriptor (text_at pool n) (and_parts (is_some_that is_field_descriptor (text_at pool n)) (is_new pool before name n) e).0))
 
   abbrev F3 : ℕ → ℕ → ℕ → Member → Type 0
-  F3 flags name descriptor m = IsAttributes pool (in_field (text_of pool descriptor)) m.attributes × (m ≡ member_of flags name descriptor m.attributes)
+  F3 flags name descriptor m = IsAttributes pool (in_field (text_or_empty pool descriptor)) m.attributes × (m ≡ member_of flags name descriptor m.attributes)
 
   abbrev F2 : ℕ → ℕ → Member → Type 0
-  F2 flags name m = (is_field_type pool before name m.descriptor ≡ true) × F3 flags name m.descriptor m
+  F2 flags name m = (leads_to_field_type pool before name m.descriptor ≡ true) × F3 flags name m.descriptor m
 
   abbrev F1 : ℕ → Member → Type 0
-  F1 flags m = (is_field_name pool m.name ≡ true) × F2 flags m.name m
+  F1 flags m = (leads_to_field_name pool m.name ≡ true) × F2 flags m.name m
 
   abbrev s3 : Member → List ℕ
   s3 m = spelling.counted spelling.attribute m.attributes
@@ -63,15 +63,15 @@ module _ (pool : Pool) (few : IsFew pool) (before : List Member) where
   field_reads_raw : Reads (bind u2_at (field_name pool before)) (λ m. (m.flags < 2 ^ 16) × F1 m.flags m) (λ m. to_be_bytes w16 m.flags ++ s1 m)
   field_reads_raw =
       bind_reads u2_at (λ n. n < 2 ^ 16) (to_be_bytes w16) (field_name pool before) F1 (λ flags. s1) (λ m. m.flags) u2_reads
-      (λ flags a. bind_reads (index_at (is_field_name pool)) (λ n. is_field_name pool n ≡ true) (to_be_bytes w16) (field_type pool before flags) (F2 flags) (λ name. s2) (λ m. m.name) field_names
-      (λ name b. bind_reads (index_at (is_field_type pool before name)) (λ n. is_field_type pool before name n ≡ true) (to_be_bytes w16) (field_attributes pool before flags name) (F3 flags name) (λ descriptor. s3) (λ m. m.descriptor) (field_types name)
-      (λ descriptor c. made_reads (attributes_at pool (in_field (text_of pool descriptor)) false) (IsAttributes pool (in_field (text_of pool descriptor))) (spelling.counted spelling.attribute) (member_of flags name descriptor) (λ m. m.attributes) (λ xs. refl) (plain_attributes_of pool few (in_field (text_of pool descriptor))))
+      (λ flags a. bind_reads (index_at (leads_to_field_name pool)) (λ n. leads_to_field_name pool n ≡ true) (to_be_bytes w16) (field_type pool before flags) (F2 flags) (λ name. s2) (λ m. m.name) field_names
+      (λ name b. bind_reads (index_at (leads_to_field_type pool before name)) (λ n. leads_to_field_type pool before name n ≡ true) (to_be_bytes w16) (field_attributes pool before flags name) (F3 flags name) (λ descriptor. s3) (λ m. m.descriptor) (field_types name)
+      (λ descriptor c. made_reads (attributes_at pool (in_field (text_or_empty pool descriptor)) false) (IsAttributes pool (in_field (text_or_empty pool descriptor))) (spelling.counted spelling.attribute) (member_of flags name descriptor) (λ m. m.attributes) (λ xs. refl) (plain_attributes_of pool few (in_field (text_or_empty pool descriptor))))
       (λ descriptor m q. ap (λ (x : Member). x.descriptor) q.1))
       (λ name m q. ap (λ (x : Member). x.name) q.1.1))
       (λ flags m q. ap (λ (x : Member). x.flags) q.1.1.1)
 
   pub field_reads : Reads (field_at pool before) (λ m. IsField pool m × (is_other_member pool before m ≡ true)) spelling.member
-  unfolding field_at is_field_name is_field_type is_new spelling.member is_first
+  unfolding field_at leads_to_field_name leads_to_field_type is_new spelling.member is_first
   field_reads =
       as_reads (field_at pool before) (λ m. (m.flags < 2 ^ 16) × F1 m.flags m) (λ m. to_be_bytes w16 m.flags ++ s1 m) (λ m. IsField pool m × (is_other_member pool before m ≡ true)) spelling.member field_reads_raw
       (λ m p. let both = and_parts (is_some_that is_field_descriptor (text_at pool m.descriptor)) (is_other_member pool before m) p.1.1.0 in
@@ -82,17 +82,17 @@ module _ (pool : Pool) (few : IsFew pool) (before : List Member) where
 -- ---- methods and their code
 
 -- Code is what is named so.
-code_named : (Inner : List Attribute → Type 0) (pool : Pool) → IsFew pool → (l : AttributeLayer) → HasForm Inner pool in_method l → is_code_layer l ≡ bytes_eq (codes "Code") (text_of pool (spelling.name_of l))
+code_named : (Inner : List Attribute → Type 0) (pool : Pool) → IsFew pool → (l : AttributeLayer) → HasForm Inner pool in_method l → is_code_layer l ≡ bytes_eq (codes "Code") (text_or_empty pool (spelling.name_of l))
 code_named Inner pool few (Attribute-F.Code n a b c d e) is =
     sym (sym (is_named_by pool few n (form_named Inner pool in_method (Attribute-F.Code n a b c d e) is) (codes "Code")) ∙ is.0)
-code_named Inner pool few (Attribute-F.Annotations n list) is = sym (not_code (form_named Inner pool in_method (Attribute-F.Annotations n list) is) (cases_Bool (bytes_eq (codes "Code") (text_of pool n))))
+code_named Inner pool few (Attribute-F.Annotations n list) is = sym (not_code (form_named Inner pool in_method (Attribute-F.Annotations n list) is) (cases_Bool (bytes_eq (codes "Code") (text_or_empty pool n))))
   where
-    not_code : is_text pool n ≡ true → (bytes_eq (codes "Code") (text_of pool n) ≡ true) ⊎ (bytes_eq (codes "Code") (text_of pool n) ≡ false) → bytes_eq (codes "Code") (text_of pool n) ≡ false
-    not_code named (inl y) = another (codes "Code") (codes "RuntimeVisibleAnnotations") (text_of pool n) y (sym (is_named_by pool few n named (codes "RuntimeVisibleAnnotations")) ∙ is.0) refl
+    not_code : leads_to_text pool n ≡ true → (bytes_eq (codes "Code") (text_or_empty pool n) ≡ true) ⊎ (bytes_eq (codes "Code") (text_or_empty pool n) ≡ false) → bytes_eq (codes "Code") (text_or_empty pool n) ≡ false
+    not_code named (inl y) = another (codes "Code") (codes "RuntimeVisibleAnnotations") (text_or_empty pool n) y (sym (is_named_by pool few n named (codes "RuntimeVisibleAnnotations")) ∙ is.0) refl
     not_code named (inr f) = f
-code_named Inner pool few (Attribute-F.Other n bytes) is = sym (not_code (form_named Inner pool in_method (Attribute-F.Other n bytes) is) (cases_Bool (bytes_eq (codes "Code") (text_of pool n))))
+code_named Inner pool few (Attribute-F.Other n bytes) is = sym (not_code (form_named Inner pool in_method (Attribute-F.Other n bytes) is) (cases_Bool (bytes_eq (codes "Code") (text_or_empty pool n))))
   where
-    not_code : is_text pool n ≡ true → (bytes_eq (codes "Code") (text_of pool n) ≡ true) ⊎ (bytes_eq (codes "Code") (text_of pool n) ≡ false) → bytes_eq (codes "Code") (text_of pool n) ≡ false
+    not_code : leads_to_text pool n ≡ true → (bytes_eq (codes "Code") (text_or_empty pool n) ≡ true) ⊎ (bytes_eq (codes "Code") (text_or_empty pool n) ≡ false) → bytes_eq (codes "Code") (text_or_empty pool n) ≡ false
     not_code named (inl y) =
         let known = own_known pool few n named in_method y in
         absurd (let h : false ≡ true = ap not (sym known) ∙ sym (not_known pool few n named in_method) ∙ is.name in cc)
@@ -131,14 +131,14 @@ its_code_unbarred pool few false xs all e = (free xs, e)
     free (y ∷ ys) = (refl, free ys)
 
 module _ (pool : Pool) (few : IsFew pool) (before : List Member) where
-  pub method_names : Reads (index_at (is_name_of_method pool)) (λ n. is_name_of_method pool n ≡ true) (to_be_bytes w16)
-  unfolding is_name_of_method
-  method_names = index_reads (is_name_of_method pool) (λ n e. numbered_text pool n few (some_that is_method_name (text_at pool n) e))
+  pub method_names : Reads (index_at (leads_to_method_name pool)) (λ n. leads_to_method_name pool n ≡ true) (to_be_bytes w16)
+  unfolding leads_to_method_name
+  method_names = index_reads (leads_to_method_name pool) (λ n e. numbered_text pool n few (some_that is_method_name (text_at pool n) e))
 
-  pub method_types : (flags name : ℕ) → Reads (index_at (is_method_type pool before flags name)) (λ n. is_method_type pool before flags name n ≡ true) (to_be_bytes w16)
-  unfolding is_method_type
+  pub method_types : (flags name : ℕ) → Reads (index_at (leads_to_method_type pool before flags name)) (λ n. leads_to_method_type pool before flags name n ≡ true) (to_be_bytes w16)
+  unfolding leads_to_method_type
   method_types flags name =
-      index_reads (is_method_type pool before flags name) (λ n e. numbered_text pool n few (some_that (is_method_descriptor (most_slots flags)) (text_at pool n) (and_parts (is_some_that (is_method_descriptor (most_slots flags)) (text_at pool n)) (is_new pool before name n) e).0))
+      index_reads (leads_to_method_type pool before flags name) (λ n e. numbered_text pool n few (some_that (is_method_descriptor (most_slots flags)) (text_at pool n) (and_parts (is_some_that (is_method_descriptor (most_slots flags)) (text_at pool n)) (is_new pool before name n) e).0))
 
   abbrev IsList : ℕ → List Attribute → Type 0
   IsList flags xs = IsAttributes pool in_method xs × IsUnbarred pool (is_barred flags) xs
@@ -150,10 +150,10 @@ module _ (pool : Pool) (few : IsFew pool) (before : List Member) where
   M3 flags name descriptor m = IsList flags m.attributes × M4 flags name descriptor m.attributes m
 
   abbrev M2 : ℕ → ℕ → Member → Type 0
-  M2 flags name m = (is_method_type pool before flags name m.descriptor ≡ true) × M3 flags name m.descriptor m
+  M2 flags name m = (leads_to_method_type pool before flags name m.descriptor ≡ true) × M3 flags name m.descriptor m
 
   abbrev M1 : ℕ → Member → Type 0
-  M1 flags m = (is_name_of_method pool m.name ≡ true) × M2 flags m.name m
+  M1 flags m = (leads_to_method_name pool m.name ≡ true) × M2 flags m.name m
 
   abbrev t3 : Member → List ℕ
   t3 m = spelling.counted spelling.attribute m.attributes ++ []
@@ -167,8 +167,8 @@ module _ (pool : Pool) (few : IsFew pool) (before : List Member) where
   method_reads_raw : (at : ℕ) → Reads (bind u2_at (method_name pool before at)) (λ m. (m.flags < 2 ^ 16) × M1 m.flags m) (λ m. to_be_bytes w16 m.flags ++ t1 m)
   method_reads_raw at =
       bind_reads u2_at (λ n. n < 2 ^ 16) (to_be_bytes w16) (method_name pool before at) M1 (λ flags. t1) (λ m. m.flags) u2_reads
-      (λ flags a. bind_reads (index_at (is_name_of_method pool)) (λ n. is_name_of_method pool n ≡ true) (to_be_bytes w16) (method_type pool before at flags) (M2 flags) (λ name. t2) (λ m. m.name) method_names
-      (λ name b. bind_reads (index_at (is_method_type pool before flags name)) (λ n. is_method_type pool before flags name n ≡ true) (to_be_bytes w16) (method_attributes pool before at flags name) (M3 flags name) (λ descriptor. t3) (λ m. m.descriptor) (method_types flags name)
+      (λ flags a. bind_reads (index_at (leads_to_method_name pool)) (λ n. leads_to_method_name pool n ≡ true) (to_be_bytes w16) (method_type pool before at flags) (M2 flags) (λ name. t2) (λ m. m.name) method_names
+      (λ name b. bind_reads (index_at (leads_to_method_type pool before flags name)) (λ n. leads_to_method_type pool before flags name n ≡ true) (to_be_bytes w16) (method_attributes pool before at flags name) (M3 flags name) (λ descriptor. t3) (λ m. m.descriptor) (method_types flags name)
       (λ descriptor c. bind_reads (attributes_at pool in_method (is_barred flags)) (IsList flags) (spelling.counted spelling.attribute) (method_code pool before at flags name descriptor) (M4 flags name descriptor) (λ found m. []) (λ m. m.attributes) (attributes_of pool few in_method (is_barred flags))
       (λ found d. unless_reads (is_barred flags || has_code found) (code_missing at) (λ end bytes. Ok (member_of flags name descriptor found, bytes)) (λ m. m ≡ member_of flags name descriptor found) (λ m. []) (λ y. give_reads (member_of flags name descriptor found)))
       (λ found m q. ap (λ (x : Member). x.attributes) q.1))
@@ -180,7 +180,7 @@ module _ (pool : Pool) (few : IsFew pool) (before : List Member) where
   method_spelled a b c d = ap (λ (l : List ℕ). a ++ (b ++ (c ++ l))) (append-nil d) ∙ four a b c d
 
   pub method_reads : Reads (method_at pool before) (λ m. IsMethod pool m × (is_other_member pool before m ≡ true)) spelling.member
-  unfolding method_at is_name_of_method is_method_type is_new spelling.member is_first
+  unfolding method_at leads_to_method_name leads_to_method_type is_new spelling.member is_first
   method_reads =
       here_reads (λ at. bind u2_at (method_name pool before at)) (λ m. IsMethod pool m × (is_other_member pool before m ≡ true)) spelling.member (λ at.
       as_reads (bind u2_at (method_name pool before at)) (λ m. (m.flags < 2 ^ 16) × M1 m.flags m) (λ m. to_be_bytes w16 m.flags ++ t1 m) (λ m. IsMethod pool m × (is_other_member pool before m ≡ true)) spelling.member (method_reads_raw at)

@@ -10,7 +10,7 @@ use Rattle.class_model.specs.Constants.{has_targets, takes_two}
 use Rattle.class_model.specs.Spelling.{constant, pool}
 use Rattle.class_text.specs.Reading.{Fault, bad_index, place, number_at, or_cut, IsBytes}
 use Rattle.class_text.specs.Readers.{Reader, u2_at}
-use Rattle.class_text.specs.Pool.{constant_at, constants_at, wrong_at, pool_of, unless_wrong, judged, counted_at, pool_at}
+use Rattle.class_text.specs.Pool.{constant_at_front, constants_at, wrong_at, pool_of, unless_wrong, judged, pool_behind_count, pool_at}
 use Rattle.class_text.proofs.Numbers.{some_is}
 use Rattle.class_text.proofs.Constants.{constant_taken}
 use Rattle.class_text.proofs.Pools.{constants_taken, pool_taken}
@@ -19,7 +19,7 @@ use Rattle.class_text.proofs.Readers.{bind}
 use Rattle.class_text.proofs.Inside.{IsInside, Inside, give_inside, made_inside, then_inside, u2_inside}
 
 abbrev pub one_at : ℕ → Reader Constant
-one_at left end bytes = constant_at end left bytes
+one_at left end bytes = constant_at_front end left bytes
 
 constant_inside : (left low : ℕ) → Inside low 0 (one_at left)
 constant_inside left low = record {
@@ -72,7 +72,7 @@ pool_inside low = record {
 }
   where
     fault : (end : ℕ) (bytes : List ℕ) (f : Fault) → IsBytes bytes → low + length bytes ≤ end → pool_at end bytes ≡ Err f → IsInside end f
-    fault end bytes f are room e = go (bind_err (or_cut at (number_at w16 bytes)) (counted_at end at) f e)
+    fault end bytes f are room e = go (bind_err (or_cut at (number_at w16 bytes)) (pool_behind_count end at) f e)
       where
         at : ℕ
         at = place end bytes
@@ -90,12 +90,12 @@ pool_inside low = record {
             let taken = constants_taken end (count - 1) false rest found.0 found.1 fits (λ no. absurd (let h : false ≡ true = no in cc)) is in
             wrong rest found.0 found.1 small (ap length taken.takes.parts ∙ length-append (flat_map constant found.0) found.1) (wrong_at (pool_of found.0) (place end rest) found.0) refl is'
 
-        counted : (count : ℕ) (rest : List ℕ) → IsBytes rest → length rest + 2 ≤ length bytes → counted_at end at (count, rest) ≡ Err f → IsInside end f
+        counted : (count : ℕ) (rest : List ℕ) → IsBytes rest → length rest + 2 ≤ length bytes → pool_behind_count end at (count, rest) ≡ Err f → IsInside end f
         counted count rest fits some e = elim (cases_Bool (eqb count 0)) [
           | inl y ↦ subst (IsInside end) (err_is (bad_index at) f (rw y at e)) (omega (arith, some, room))
           | inr g ↦ constants count rest fits (omega (arith, some, room)) (bind_err (constants_at end false (count - 1) rest) (judged (place end rest)) f (rw g at e))
         ]
 
-        go : Failed (or_cut at (number_at w16 bytes)) (counted_at end at) f → IsInside end f
+        go : Failed (or_cut at (number_at w16 bytes)) (pool_behind_count end at) f → IsInside end f
         go (first is) = cut_fault (IsInside end) at (number_at w16 bytes) f (omega arith) is
         go (later x is is') = let t = (u2_inside low).rest end bytes x.0 x.1 are room is in counted x.0 x.1 t.0 t.1 is'

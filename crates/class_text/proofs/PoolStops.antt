@@ -10,8 +10,8 @@ use Rattle.class_model.specs.declared.constant_pool.Constant.TheVariants.{Second
 use Rattle.class_model.specs.declared.constant_pool.Pool.{Pool}
 use Rattle.class_model.specs.Constants.{IsConstant, takes_two, is_second, has_seconds}
 use Rattle.class_model.specs.Spelling.{constant}
-use Rattle.class_text.specs.Reading.{Fault, cut_short, bad_index, ◌>>=◌, place, place_of, number_at, or_cut, IsBytes}
-use Rattle.class_text.specs.Pool.{constant_at, constants_at, with_first, wrong_at, pool_of, unless_wrong, judged, counted_at, pool_at}
+use Rattle.class_text.specs.Reading.{Fault, cut_short, bad_index, ◌>>=◌, place, fault_place, number_at, or_cut, IsBytes}
+use Rattle.class_text.specs.Pool.{constant_at_front, constants_at, with_first_constant, wrong_at, pool_of, unless_wrong, judged, pool_behind_count, pool_at}
 use Rattle.class_text.specs.Places.{Stops}
 use Rattle.class_text.proofs.Numbers.{Takes, wide16, number_takes, number_again}
 use Rattle.class_text.proofs.Constants.{constant_taken, constant_again}
@@ -39,7 +39,7 @@ abbrev NoneThere : ℕ → List ℕ → Fault → Type 0
 NoneThere end rest f = ⊥
 
 one_tied : (left : ℕ) → Tied 0 NoFault NoneThere (one_at left)
-unfolding constant_at
+unfolding constant_at_front
 one_tied left end bytes f are room e = inl (stops_here (one_at left) NoneThere end bytes f (λ p. refl) (constant_place end left bytes f e))
 
 list_tied : (numbers : ℕ) (due : Bool) → Tied 0 NoFault NoneThere (list_at due numbers)
@@ -53,7 +53,7 @@ list_tied (suc numbers) false =
 -- constants before one that is to come are cut where they end
 short_list : (good : List Constant) (due : Bool) (bad : Constant) (more : List Constant) (p : ℕ) → AllByRecursion IsConstant good → is_second bad ≡ false → has_seconds due (good ++ bad ∷ more) ≡ true
     → constants_at p due (length (good ++ bad ∷ more)) (flat_map constant good) ≡ Err (cut_short (place p []))
-unfolding constants_at has_seconds constant constant_at
+unfolding constants_at has_seconds constant constant_at_front
 short_list [] true bad more p fit plain s = absurd (let parts = and_parts (is_second bad) (has_seconds (takes_two bad) more) s in let h : true ≡ false = sym parts.0 ∙ plain in cc)
 short_list [] false bad more p fit plain s = refl
 short_list (g ∷ good) true bad more p fit plain s =
@@ -61,7 +61,7 @@ short_list (g ∷ good) true bad more p fit plain s =
     let parts = and_parts (is_second g) (has_seconds (takes_two g) cs) s in
     let same = is_it g parts.0 in
     let others : has_seconds false cs ≡ true = subst (λ (k : Constant). has_seconds (takes_two k) cs ≡ true) same parts.1 in
-    rw same (ap (λ read. read >>= with_first Second) (short_list good false bad more p fit.1 plain others))
+    rw same (ap (λ read. read >>= with_first_constant Second) (short_list good false bad more p fit.1 plain others))
 short_list (g ∷ good) false bad more p fit plain s =
     let cs = good ++ bad ∷ more in
     let parts = and_parts (not (is_second g)) (has_seconds (takes_two g) cs) s in
@@ -85,7 +85,7 @@ pool_stops W end bytes f are room e = go (number_at w16 bytes) refl e
 
     -- the constants come to a place
     behind : (count : ℕ) (rest front others : List ℕ) → Takes bytes (to_be_bytes w16 count) rest → count < 2 ^ 16 → eqb count 0 ≡ false → rest ≡ front ++ others
-        → constants_at (place end others) false (count - 1) front ≡ Err (cut_short (place end others)) → place_of f ≡ place end others → Stops pool_at W end bytes f
+        → constants_at (place end others) false (count - 1) front ≡ Err (cut_short (place end others)) → fault_place f ≡ place end others → Stops pool_at W end bytes f
     behind count rest front others t low some parts cut here =
         let p = place end others in
         record {
@@ -113,13 +113,13 @@ pool_stops W end bytes f are room e = go (number_at w16 bytes) refl e
         behind count rest (flat_map constant s.good) others t low some
         (parts ∙ ap (λ (l : List Constant). flat_map constant l ++ after) s.parts ∙ ap (λ (l : List ℕ). l ++ after) (flat_map-append constant s.good (s.bad ∷ s.more)) ∙ append_assoc (flat_map constant s.good) (flat_map constant (s.bad ∷ s.more)) after)
         (subst (λ (n : ℕ). constants_at p false n (flat_map constant s.good) ≡ Err (cut_short p)) many (subst (λ (q : ℕ). constants_at p false (length (s.good ++ s.bad ∷ s.more)) (flat_map constant s.good) ≡ Err (cut_short q)) here cut))
-        (ap place_of (sym (err_is {A = Pool × List ℕ} (bad_index w) f e)) ∙ s.here)
+        (ap fault_place (sym (err_is {A = Pool × List ℕ} (bad_index w) f e)) ∙ s.here)
 
     come : (count : ℕ) (rest : List ℕ) → Takes bytes (to_be_bytes w16 count) rest → count < 2 ^ 16 → eqb count 0 ≡ false → Stops (list_at false (count - 1)) NoneThere end rest f ⊎ NoFault f → Stops pool_at W end bytes f
     come count rest t low some (inr n) = absurd n
     come count rest t low some (inl s) = behind count rest s.front s.rest t low some s.parts s.cut (here s.what)
       where
-        here : {p : ℕ} → (place_of f ≡ p) ⊎ ⊥ → place_of f ≡ p
+        here : {p : ℕ} → (fault_place f ≡ p) ⊎ ⊥ → fault_place f ≡ p
         here (inl h) = h
         here (inr n) = absurd n
 
@@ -129,12 +129,12 @@ pool_stops W end bytes f are room e = go (number_at w16 bytes) refl e
     constants count rest t low some (later x is is') =
         wrong count rest x.0 x.1 t low some (constants_taken end (count - 1) false rest x.0 x.1 t.rest_fits (λ due. absurd (let h : false ≡ true = due in cc)) is) (wrong_at (pool_of x.0) (place end rest) x.0) refl is'
 
-    counted : (count : ℕ) (rest : List ℕ) → Takes bytes (to_be_bytes w16 count) rest → count < 2 ^ 16 → counted_at end start (count, rest) ≡ Err f → Stops pool_at W end bytes f
+    counted : (count : ℕ) (rest : List ℕ) → Takes bytes (to_be_bytes w16 count) rest → count < 2 ^ 16 → pool_behind_count end start (count, rest) ≡ Err f → Stops pool_at W end bytes f
     counted count rest t low e = elim (cases_Bool (eqb count 0)) [
-      | inl y ↦ stops_here pool_at W end bytes f none (ap place_of (sym (err_is {A = Pool × List ℕ} (bad_index start) f (rw y at e))))
+      | inl y ↦ stops_here pool_at W end bytes f none (ap fault_place (sym (err_is {A = Pool × List ℕ} (bad_index start) f (rw y at e))))
       | inr g ↦ constants count rest t low g (bind_err (constants_at end false (count - 1) rest) (judged (place end rest)) f (rw g at e))
     ]
 
-    go : (found : Option (ℕ × List ℕ)) → number_at w16 bytes ≡ found → (or_cut start found >>= counted_at end start) ≡ Err f → Stops pool_at W end bytes f
-    go None is e = stops_here pool_at W end bytes f none (ap place_of (sym (err_is {A = Pool × List ℕ} (cut_short start) f e)))
+    go : (found : Option (ℕ × List ℕ)) → number_at w16 bytes ≡ found → (or_cut start found >>= pool_behind_count end start) ≡ Err f → Stops pool_at W end bytes f
+    go None is e = stops_here pool_at W end bytes f none (ap fault_place (sym (err_is {A = Pool × List ℕ} (cut_short start) f e)))
     go (Some x) is e = let t = number_takes w16 (2 ^ 16) wide16 bytes x.0 x.1 are is in counted x.0 x.1 t.0 t.1 e

@@ -11,7 +11,7 @@ use Rattle.class_model.specs.Constants.{takes_two}
 use Rattle.class_model.specs.Spelling.{constant}
 use Rattle.class_model.proofs.TextLemmas.{is_text-grammar}
 use Rattle.class_text.specs.Reading.{Fault, cut_short, bad_tag, bad_text, bad_index, ◌>>=◌, place, number_at, or_cut, IsBytes}
-use Rattle.class_text.specs.Pool.{of_one, of_two, handle_at, fixed_at, is_tag, is_wide, text_of, utf8_at, constant_at, constants_at, pool_of, unless_wrong, judged, wrong_at, counted_at, pool_at}
+use Rattle.class_text.specs.Pool.{constant_of_one, constant_of_two, method_handle_at, fixed_at, is_tag, is_wide, text_behind_length, utf8_at, constant_at_front, constants_at, pool_of, unless_wrong, judged, wrong_at, pool_behind_count, pool_at}
 use Rattle.class_text.specs.Meanings.{IsBadText, IsMeantInPool}
 use Rattle.class_text.proofs.Numbers.{IsBytes-drop, IsBytes-rest, wide16, number_takes}
 use Rattle.class_text.proofs.Places.{Failed, first, later, bind_err, err_is}
@@ -29,14 +29,14 @@ number_short w bytes e = elim (cases_Bool (ltb (length bytes) (byte_len w))) [
   | inr n ↦ absurd (let bad : Some (from_be_bytes w (take (byte_len w) bytes), drop (byte_len w) bytes) ≡ None = rw n at e in cc)
 ]
 
-one_short : (w : Width) (make : ℕ → Constant) (bytes : List ℕ) → byte_len w < 9 → of_one w make bytes ≡ None → length bytes < 9
+one_short : (w : Width) (make : ℕ → Constant) (bytes : List ℕ) → byte_len w < 9 → constant_of_one w make bytes ≡ None → length bytes < 9
 one_short w make bytes few e = go (number_at w bytes) refl e
   where
     go : (found : Option (ℕ × List ℕ)) → number_at w bytes ≡ found → option_map {U = Constant × List ℕ} (λ n. (make n.0, n.1)) found ≡ None → length bytes < 9
     go None is e = omega (arith, number_short w bytes is, few)
     go (Some x) is e = absurd cc
 
-two_short : (make : ℕ → ℕ → Constant) (bytes : List ℕ) → IsBytes bytes → of_two make bytes ≡ None → length bytes < 9
+two_short : (make : ℕ → ℕ → Constant) (bytes : List ℕ) → IsBytes bytes → constant_of_two make bytes ≡ None → length bytes < 9
 two_short make bytes are e = go (number_at w16 bytes) refl e
   where
     behind : (m : ℕ) (after : List ℕ) → number_at w16 bytes ≡ Some (m, after) → (found : Option (ℕ × List ℕ)) → number_at w16 after ≡ found → option_map {U = Constant × List ℕ} (λ n. (make m n.0, n.1)) found ≡ None → length bytes < 9
@@ -49,7 +49,7 @@ two_short make bytes are e = go (number_at w16 bytes) refl e
     go None is e = omega (arith, number_short w16 bytes is)
     go (Some x) is e = behind x.0 x.1 is (number_at w16 x.1) refl e
 
-handle_short : (bytes : List ℕ) → handle_at bytes ≡ None → length bytes < 9
+handle_short : (bytes : List ℕ) → method_handle_at bytes ≡ None → length bytes < 9
 handle_short [] e = omega arith
 handle_short (kind ∷ bytes) e = go (number_at w16 bytes) refl e
   where
@@ -108,7 +108,7 @@ module _ (file : List ℕ) (start : ℕ) where
             bad = λ good. let yes = (is_text-grammar (take n after)).1 good in let h : true ≡ false = sym yes ∙ isnt in cc;
           }
 
-      judged_text : (n : ℕ) (after : List ℕ) → bytes ≡ to_be_bytes w16 n ++ after → n < 2 ^ 16 → text_of at (n, after) ≡ Err f → Meant end f
+      judged_text : (n : ℕ) (after : List ℕ) → bytes ≡ to_be_bytes w16 n ++ after → n < 2 ^ 16 → text_behind_length at (n, after) ≡ Err f → Meant end f
       judged_text n after parts low e = elim (cases_Bool (ltb (length after) n)) [
         | inl y ↦ cut_here end (1 ∷ bytes) f i (omega (arith, ltb-true (length after) n y, low, ap length parts ∙ length-append (to_be_bytes w16 n) after)) (err_is {A = Constant × List ℕ} (cut_short at) f (rw y at e))
         | inr g ↦ elim (cases_Bool (is_text (take n after))) [
@@ -117,19 +117,19 @@ module _ (file : List ℕ) (start : ℕ) where
         ]
       ]
 
-      go : (found : Option (ℕ × List ℕ)) → number_at w16 bytes ≡ found → (or_cut at found >>= text_of at) ≡ Err f → Meant end f
+      go : (found : Option (ℕ × List ℕ)) → number_at w16 bytes ≡ found → (or_cut at found >>= text_behind_length at) ≡ Err f → Meant end f
       go None is e = cut_here end (1 ∷ bytes) f i (omega (arith, number_short w16 bytes is)) (err_is {A = Constant × List ℕ} (cut_short at) f e)
       go (Some x) is e = let t = number_takes w16 (2 ^ 16) wide16 bytes x.0 x.1 are is in judged_text x.0 x.1 t.0.parts t.1 e
 
   one_tells : (left : ℕ) → Tells file start Meant (one_at left)
-  unfolding constant_at
+  unfolding constant_at_front
   one_tells left = record { faults = fault; rest = left_of file start Meant (one_at left) (IsOne left) constant (one_reads left) }
     where
       fixed : (end : ℕ) (tag : ℕ) (bytes : List ℕ) (f : Fault) → IsIn file start end (tag ∷ bytes) → (found : Option (Constant × List ℕ)) → fixed_at tag bytes ≡ found → or_cut (place end (tag ∷ bytes)) found ≡ Err f → Meant end f
       fixed end tag bytes f i None is e = cut_here end (tag ∷ bytes) f i (omega (arith, fixed_short tag bytes (IsBytes-rest tag bytes i.fits) is)) (err_is {A = Constant × List ℕ} (cut_short (place end (tag ∷ bytes))) f e)
       fixed end tag bytes f i (Some x) is e = absurd cc
 
-      fault : (end : ℕ) (bytes : List ℕ) (f : Fault) → IsIn file start end bytes → constant_at end left bytes ≡ Err f → Meant end f
+      fault : (end : ℕ) (bytes : List ℕ) (f : Fault) → IsIn file start end bytes → constant_at_front end left bytes ≡ Err f → Meant end f
       fault end [] f i e = cut_here end [] f i (omega arith) (err_is {A = Constant × List ℕ} (cut_short (place end [])) f e)
       fault end (tag ∷ bytes) f i e =
           let at = place end (tag ∷ bytes) in
@@ -196,13 +196,13 @@ pool_meant file start f are within e = plain f refl e
     behind count rest f isnt there (first is) = (list_tells file start (count - 1) false).faults end rest f there is
     behind count rest f isnt there (later x is is') = wrong x.0 x.1 f isnt (wrong_at (pool_of x.0) (place end rest) x.0) is'
 
-    counted : (count : ℕ) (rest : List ℕ) (f : Fault) → is_index f ≡ false → IsIn file start end rest → counted_at end (place end bytes) (count, rest) ≡ Err f → IsMeantInPool file start end f
+    counted : (count : ℕ) (rest : List ℕ) (f : Fault) → is_index f ≡ false → IsIn file start end rest → pool_behind_count end (place end bytes) (count, rest) ≡ Err f → IsMeantInPool file start end f
     counted count rest f isnt there e = elim (cases_Bool (eqb count 0)) [
       | inl y ↦ never (place end bytes) f isnt (err_is {A = Pool × List ℕ} (bad_index (place end bytes)) f (rw y at e))
       | inr g ↦ behind count rest f isnt there (bind_err (constants_at end false (count - 1) rest) (judged (place end rest)) f (rw g at e))
     ]
 
-    go : (f : Fault) → is_index f ≡ false → (found : Option (ℕ × List ℕ)) → number_at w16 bytes ≡ found → (or_cut (place end bytes) found >>= counted_at end (place end bytes)) ≡ Err f → IsMeantInPool file start end f
+    go : (f : Fault) → is_index f ≡ false → (found : Option (ℕ × List ℕ)) → number_at w16 bytes ≡ found → (or_cut (place end bytes) found >>= pool_behind_count end (place end bytes)) ≡ Err f → IsMeantInPool file start end f
     go f isnt None is e = cut_here file start end bytes f i (omega (arith, number_short w16 bytes is)) (err_is {A = Pool × List ℕ} (cut_short (place end bytes)) f e)
     go f isnt (Some x) is e =
         let t = number_takes w16 (2 ^ 16) wide16 bytes x.0 x.1 i.fits is in

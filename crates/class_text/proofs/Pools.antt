@@ -9,7 +9,7 @@ use Rattle.class_model.specs.declared.constant_pool.Pool.{Pool}
 use Rattle.class_model.specs.Constants.{IsConstant, IsPool, takes_two, is_second, has_seconds, has_targets}
 use Rattle.class_model.specs.Spelling.{constant, pool}
 use Rattle.class_text.specs.Reading.{bad_index, ◌>>=◌, place, number_at, or_cut, IsBytes}
-use Rattle.class_text.specs.Pool.{constant_at, constants_at, with_first, wrong_at, pool_of, unless_wrong, judged, counted_at, pool_at}
+use Rattle.class_text.specs.Pool.{constant_at_front, constants_at, with_first_constant, wrong_at, pool_of, unless_wrong, judged, pool_behind_count, pool_at}
 use Rattle.class_text.proofs.Numbers.{bind_ok, ok_is, Takes, Takes-then, wide16, number_takes, number_again}
 use Rattle.class_text.proofs.Constants.{IsTaken, constant_taken, constant_again}
 
@@ -41,12 +41,12 @@ constants_taken end zero true bytes cs rest are room e = absurd (let h : 1 ≤ 0
 constants_taken end zero false bytes cs rest are room e =
     subst (λ (p : List Constant × List ℕ). AreTaken false 0 bytes p.0 p.1) (ok_is ([], bytes) (cs, rest) e) (record { takes = record { parts = refl; rest_fits = are }; fit = tt; seconds = refl; many = refl })
 constants_taken end (suc numbers) true bytes cs rest are room e =
-    let b = bind_ok (constants_at end false numbers bytes) (with_first Second) (cs, rest) e in
+    let b = bind_ok (constants_at end false numbers bytes) (with_first_constant Second) (cs, rest) e in
     let more = constants_taken end numbers false bytes b.0.0 b.0.1 are (λ no. absurd (let h : false ≡ true = no in cc)) b.1 in
     subst (λ (p : List Constant × List ℕ). AreTaken true (suc numbers) bytes p.0 p.1) (ok_is (Second ∷ b.0.0, b.0.1) (cs, rest) b.2) (second_taken numbers bytes b.0.0 b.0.1 more)
 constants_taken end (suc numbers) false bytes cs rest are room e =
-    let a = bind_ok (constant_at end (suc numbers) bytes) (λ found. constants_at end (takes_two found.0) numbers found.1 >>= with_first found.0) (cs, rest) e in
-    let b = bind_ok (constants_at end (takes_two a.0.0) numbers a.0.1) (with_first a.0.0) (cs, rest) a.2 in
+    let a = bind_ok (constant_at_front end (suc numbers) bytes) (λ found. constants_at end (takes_two found.0) numbers found.1 >>= with_first_constant found.0) (cs, rest) e in
+    let b = bind_ok (constants_at end (takes_two a.0.0) numbers a.0.1) (with_first_constant a.0.0) (cs, rest) a.2 in
     let one = constant_taken end (suc numbers) bytes a.0.0 a.0.1 are a.1 in
     let more = constants_taken end numbers (takes_two a.0.0) a.0.1 b.0.0 b.0.1 one.takes.rest_fits (λ two. let h : 2 ≤ suc numbers = one.room two in omega arith) b.1 in
     subst (λ (p : List Constant × List ℕ). AreTaken false (suc numbers) bytes p.0 p.1) (ok_is (a.0.0 ∷ b.0.0, b.0.1) (cs, rest) b.2) (next_taken numbers (suc numbers) bytes a.0.0 a.0.1 b.0.0 b.0.1 one more)
@@ -70,13 +70,13 @@ constants_again (c ∷ cs) true end rest fit s =
     let parts = and_parts (is_second c) (has_seconds (takes_two c) cs) s in
     let same = is_it c parts.0 in
     let others : has_seconds false cs ≡ true = subst (λ (k : Constant). has_seconds (takes_two k) cs ≡ true) same parts.1 in
-    rw same (ap (λ read. read >>= with_first Second) (constants_again cs false end rest fit.1 others))
+    rw same (ap (λ read. read >>= with_first_constant Second) (constants_again cs false end rest fit.1 others))
 constants_again (c ∷ cs) false end rest fit s =
     let parts = and_parts (not (is_second c)) (has_seconds (takes_two c) cs) s in
     let behind = flat_map constant cs ++ rest in
     let one = constant_again end (suc (length cs)) c behind fit.0 (not-true (is_second c) parts.0) (λ two. let h : 1 ≤ length cs = room_for (takes_two c) cs parts.1 two in omega arith) in
     let more = constants_again cs (takes_two c) end rest fit.1 parts.1 in
-    ap (λ (l : List ℕ). constant_at end (suc (length cs)) l >>= (λ found. constants_at end (takes_two found.0) (length cs) found.1 >>= with_first found.0)) (append_assoc (constant c) (flat_map constant cs) rest)
+    ap (λ (l : List ℕ). constant_at_front end (suc (length cs)) l >>= (λ found. constants_at end (takes_two found.0) (length cs) found.1 >>= with_first_constant found.0)) (append_assoc (constant c) (flat_map constant cs) rest)
     ∙ rw (one, more) refl
 
 -- No place is wrong exactly where every constant has its targets.
@@ -110,7 +110,7 @@ pool_taken end bytes p rest are e = go (number_at w16 bytes) refl e
         let is_pool : IsPool (pool_of found.0) = record { counted = omega (arith, size, low); constants = taken.fit; seconds = taken.seconds; targets = none_wrong (pool_of found.0) (place end after) found.0 is } in
         subst (λ (q : Pool × List ℕ). IsPool q.0 × Takes bytes (pool q.0) q.1) (ok_is (pool_of found.0, found.1) (p, rest) e) (is_pool, spelled)
 
-    counted : (count : ℕ) (after : List ℕ) → Takes bytes (to_be_bytes w16 count) after → count < 2 ^ 16 → counted_at end at (count, after) ≡ Ok (p, rest) → IsPool p × Takes bytes (pool p) rest
+    counted : (count : ℕ) (after : List ℕ) → Takes bytes (to_be_bytes w16 count) after → count < 2 ^ 16 → pool_behind_count end at (count, after) ≡ Ok (p, rest) → IsPool p × Takes bytes (pool p) rest
     counted count after t low e = elim (cases_Bool (eqb count 0)) [
       | inl y ↦ absurd (let bad : Err (bad_index at) ≡ Ok (p, rest) = rw y at e in cc)
       | inr f ↦ (let b = bind_ok (constants_at end false (count - 1) after) (judged (place end after)) (p, rest) (rw f at e) in
@@ -118,7 +118,7 @@ pool_taken end bytes p rest are e = go (number_at w16 bytes) refl e
           right count after b.0 t low f taken (wrong_at (pool_of b.0.0) (place end after) b.0.0) refl b.2)
     ]
 
-    go : (found : Option (ℕ × List ℕ)) → number_at w16 bytes ≡ found → (or_cut at found >>= counted_at end at) ≡ Ok (p, rest) → IsPool p × Takes bytes (pool p) rest
+    go : (found : Option (ℕ × List ℕ)) → number_at w16 bytes ≡ found → (or_cut at found >>= pool_behind_count end at) ≡ Ok (p, rest) → IsPool p × Takes bytes (pool p) rest
     go None is e = absurd cc
     go (Some (count, after)) is e =
         let t = number_takes w16 (2 ^ 16) wide16 bytes count after are is in
@@ -136,4 +136,4 @@ pool_again end p rest is =
     let less : count - 1 ≡ length cs = omega arith in
     let all = constants_again cs false end rest is.constants is.seconds in
     let right : wrong_at (pool_of cs) (place end behind) cs ≡ None = all_right (pool_of cs) (place end behind) cs is.targets in
-    ap (λ (l : List ℕ). or_cut at (number_at w16 l) >>= counted_at end at) (append_assoc (to_be_bytes w16 count) (flat_map constant cs) rest) ∙ rw (read, some, less, all, right) refl
+    ap (λ (l : List ℕ). or_cut at (number_at w16 l) >>= pool_behind_count end at) (append_assoc (to_be_bytes w16 count) (flat_map constant cs) rest) ∙ rw (read, some, less, all, right) refl

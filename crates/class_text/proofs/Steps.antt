@@ -15,19 +15,19 @@ use Rattle.class_model.specs.Attributes.{Place, in_class, in_field, in_method, i
 use Rattle.class_model.specs.Shape.{is_plain_class, has_code}
 use Rattle.class_text.specs.Reading.{bad_tag, bad_attribute, barred_code, second_attribute, code_missing}
 use Rattle.class_text.specs.Readers.{Reader, u2_at, index_at, counted_at, counted_after}
-use Rattle.class_text.specs.Frames.{is_class, type_of, frame_of, with_item_at, with_locals_at, full_at, behind_delta_at}
-use Rattle.class_text.specs.Elements.{is_result, is_value, note_by, enum_at}
-use Rattle.class_text.specs.Attributes.{text_of, is_first, is_caught, handler_at, code_bytes_at, code_attributes_at, attributes_at}
-use Rattle.class_text.specs.Classes.{is_field_name, is_name_of_method, is_field_type, is_method_type, is_barred, field_at, method_at, is_super}
+use Rattle.class_text.specs.Frames.{leads_to_class, frame_type_of, frame_of, with_item_at, with_locals_at, full_at, behind_delta_at}
+use Rattle.class_text.specs.Elements.{leads_to_result, leads_to_value_of, note_by, enum_at}
+use Rattle.class_text.specs.Attributes.{text_or_empty, is_first, leads_to_caught, handler_at, code_bytes_at, code_attributes_at, attributes_at}
+use Rattle.class_text.specs.Classes.{leads_to_field_name, leads_to_method_name, leads_to_field_type, leads_to_method_type, is_barred, field_at, method_at, leads_to_super}
 use Rattle.class_text.proofs.Readers.{bind}
 
 -- ---- a type of a frame, behind its tag
 
 abbrev pub class_type : Pool → ℕ → Reader FrameType
-class_type pool tag = bind (index_at (is_class pool)) (λ n end bytes. Ok (type_of tag n, bytes))
+class_type pool tag = bind (index_at (leads_to_class pool)) (λ n end bytes. Ok (frame_type_of tag n, bytes))
 
 abbrev pub new_type : ℕ → Reader FrameType
-new_type tag = bind u2_at (λ n end bytes. Ok (type_of tag n, bytes))
+new_type tag = bind u2_at (λ n end bytes. Ok (frame_type_of tag n, bytes))
 
 -- ---- a frame, behind its tag or its delta
 
@@ -46,10 +46,10 @@ not_same pool at tag end bytes = cond (ltb tag 128) (with_item_at pool tag (tag 
 -- ---- a value of an annotation, behind its tag
 
 abbrev pub constant_value : Pool → ℕ → Reader Element
-constant_value pool tag = bind (index_at (is_value pool tag)) (λ n end bytes. Ok (roll-Element (Element-F.Const tag n), bytes))
+constant_value pool tag = bind (index_at (leads_to_value_of pool tag)) (λ n end bytes. Ok (roll-Element (Element-F.Const tag n), bytes))
 
 abbrev pub class_value : Pool → Reader Element
-class_value pool = bind (index_at (is_result pool)) (λ n end bytes. Ok (roll-Element (Element-F.OfClass n), bytes))
+class_value pool = bind (index_at (leads_to_result pool)) (λ n end bytes. Ok (roll-Element (Element-F.OfClass n), bytes))
 
 abbrev pub note_value : Pool → Reader Element → Reader Element
 note_value pool value = bind (note_by value pool) (λ n end bytes. Ok (roll-Element (Element-F.Nested n), bytes))
@@ -74,8 +74,8 @@ module _ (pool : Pool) (value : Reader Element) (at tag : ℕ) where
 
 abbrev pub judged : Pool → Place → Bool → List Attribute → ℕ → ℕ → Reader ℕ
 judged pool stand barred before at n end bytes =
-    cond (is_first (is_known stand) bytes_eq (map (attribute_name pool) before) (text_of pool n))
-    (cond (barred && bytes_eq (codes "Code") (text_of pool n)) (Err (bad_attribute at barred_code)) (Ok (n, bytes)))
+    cond (is_first (is_known stand) bytes_eq (map (attribute_name pool) before) (text_or_empty pool n))
+    (cond (barred && bytes_eq (codes "Code") (text_or_empty pool n)) (Err (bad_attribute at barred_code)) (Ok (n, bytes)))
     (Err (second_attribute at))
 
 -- ---- a handler
@@ -84,7 +84,7 @@ abbrev pub handler_of : ℕ → ℕ → ℕ → ℕ → Handler
 handler_of start stop handler caught = record { start = start; end = stop; handler = handler; catch_type = caught }
 
 abbrev pub handler_caught : Pool → ℕ → ℕ → ℕ → Reader Handler
-handler_caught pool start stop handler = bind (index_at (is_caught pool)) (λ caught end bytes. Ok (handler_of start stop handler caught, bytes))
+handler_caught pool start stop handler = bind (index_at (leads_to_caught pool)) (λ caught end bytes. Ok (handler_of start stop handler caught, bytes))
 
 abbrev pub handler_start : Pool → ℕ → ℕ → Reader Handler
 handler_start pool start stop = bind u2_at (handler_caught pool start stop)
@@ -117,13 +117,13 @@ member_of flags name descriptor attributes = record { flags = flags; name = name
 
 module _ (pool : Pool) (before : List Member) where
   abbrev pub field_attributes : ℕ → ℕ → ℕ → Reader Member
-  field_attributes flags name descriptor = bind (attributes_at pool (in_field (text_of pool descriptor)) false) (λ found end bytes. Ok (member_of flags name descriptor found, bytes))
+  field_attributes flags name descriptor = bind (attributes_at pool (in_field (text_or_empty pool descriptor)) false) (λ found end bytes. Ok (member_of flags name descriptor found, bytes))
 
   abbrev pub field_type : ℕ → ℕ → Reader Member
-  field_type flags name = bind (index_at (is_field_type pool before name)) (field_attributes flags name)
+  field_type flags name = bind (index_at (leads_to_field_type pool before name)) (field_attributes flags name)
 
   abbrev pub field_name : ℕ → Reader Member
-  field_name flags = bind (index_at (is_field_name pool)) (field_type flags)
+  field_name flags = bind (index_at (leads_to_field_name pool)) (field_type flags)
 
   -- a method, which begins at a place
   abbrev pub method_code : ℕ → ℕ → ℕ → ℕ → List Attribute → Reader Member
@@ -133,10 +133,10 @@ module _ (pool : Pool) (before : List Member) where
   method_attributes at flags name descriptor = bind (attributes_at pool in_method (is_barred flags)) (method_code at flags name descriptor)
 
   abbrev pub method_type : ℕ → ℕ → ℕ → Reader Member
-  method_type at flags name = bind (index_at (is_method_type pool before flags name)) (method_attributes at flags name)
+  method_type at flags name = bind (index_at (leads_to_method_type pool before flags name)) (method_attributes at flags name)
 
   abbrev pub method_name : ℕ → ℕ → Reader Member
-  method_name at flags = bind (index_at (is_name_of_method pool)) (method_type at flags)
+  method_name at flags = bind (index_at (leads_to_method_name pool)) (method_type at flags)
 
 -- ---- what stands behind the pool
 
@@ -158,7 +158,7 @@ module _ (minor major : ℕ) (pool : Pool) where
   class_interfaces flags this above = bind (counted_at (index_at (is_plain_class pool))) (class_fields flags this above)
 
   abbrev pub class_super : ℕ → ℕ → Reader Class
-  class_super flags this = bind (index_at (is_super pool this)) (class_interfaces flags this)
+  class_super flags this = bind (index_at (leads_to_super pool this)) (class_interfaces flags this)
 
   abbrev pub class_this : ℕ → Reader Class
   class_this flags = bind (index_at (is_plain_class pool)) (class_super flags)

@@ -6,9 +6,9 @@ use Rattle.std.proofs.lemmas.List.{length-append}
 use Rattle.class_model.specs.declared.constant_pool.Pool.{Pool}
 use Rattle.class_model.specs.declared.attribute_forms.Attribute.{Attribute}
 use Rattle.class_model.specs.Attributes.{Place}
-use Rattle.class_text.specs.Reading.{Fault, cut_short, astray, bad_attribute, cut_within, goes_on, place_of, is_cut, Reading, ◌>>=◌, place, number_at, IsBytes}
+use Rattle.class_text.specs.Reading.{Fault, cut_short, astray, bad_attribute, cut_within, goes_on, fault_place, is_cut, Reading, ◌>>=◌, place, number_at, IsBytes}
 use Rattle.class_text.specs.Readers.{Reader, u2_at, u4_at, index_at, many_after, counted_after, run_at, whole, within}
-use Rattle.class_text.specs.Elements.{is_text}
+use Rattle.class_text.specs.Elements.{leads_to_text}
 use Rattle.class_text.specs.Places.{IsInContent, Stops}
 use Rattle.class_text.proofs.Places.{Failed, first, later, bind_err, err_is, cut_fault, failed}
 use Rattle.class_text.proofs.Readers.{Reads, bind}
@@ -24,7 +24,7 @@ abbrev pub NoFault : Fault → Type 0
 NoFault f = ⊥
 
 abbrev pub IsAt : ℕ → Fault → Type 0
-IsAt at f = place_of f ≡ at
+IsAt at f = fault_place f ≡ at
 
 pub lift_tied : {A : Type 0} (low : ℕ) (K : Fault → Type 0) (W : ℕ → List ℕ → Fault → Type 0) (read : Reader A) → Tied low NoFault W read → Tied low K W read
 lift_tied low K W read t end bytes f are room e = go (t end bytes f are room e)
@@ -98,12 +98,12 @@ abbrev pub CutsNothing : {A : Type 0} → Reader A → Type 0
 CutsNothing read = (end : ℕ) → read end [] ≡ Err (cut_short (place end []))
 
 -- a fault at the place where the bytes begin, or of what stands there
-pub stops_at : {A : Type 0} (read : Reader A) (W : ℕ → List ℕ → Fault → Type 0) (end : ℕ) (bytes : List ℕ) (f : Fault) → CutsNothing read → (place_of f ≡ place end bytes) ⊎ W end bytes f → Stops read W end bytes f
+pub stops_at : {A : Type 0} (read : Reader A) (W : ℕ → List ℕ → Fault → Type 0) (end : ℕ) (bytes : List ℕ) (f : Fault) → CutsNothing read → (fault_place f ≡ place end bytes) ⊎ W end bytes f → Stops read W end bytes f
 stops_at {A = A} read W end bytes f none what =
     let same : place (place end bytes) [] ≡ place end bytes = omega arith in
     record { front = []; rest = bytes; parts = refl; cut = none (place end bytes) ∙ ap (λ (n : ℕ). failed {A = A × List ℕ} (cut_short n)) same; what = what }
 
-pub stops_here : {A : Type 0} (read : Reader A) (W : ℕ → List ℕ → Fault → Type 0) (end : ℕ) (bytes : List ℕ) (f : Fault) → CutsNothing read → place_of f ≡ place end bytes → Stops read W end bytes f
+pub stops_here : {A : Type 0} (read : Reader A) (W : ℕ → List ℕ → Fault → Type 0) (end : ℕ) (bytes : List ℕ) (f : Fault) → CutsNothing read → fault_place f ≡ place end bytes → Stops read W end bytes f
 stops_here read W end bytes f none e = stops_at read W end bytes f none (inl e)
 
 -- one that names the place where it begins
@@ -184,11 +184,11 @@ unfolding run_at
 run_tied low K W len end bytes f are room e = elim (cases_Bool (ltb (length bytes) len)) [
   | inl y ↦ (let long = ltb-true (length bytes) len y in
       let less : ltb 0 len ≡ true = lt-ltb 0 len (omega (arith, long)) in
-      inl (stops_here (run_at len) W end bytes f (λ p. rw less refl) (ap place_of (sym (err_is {A = List ℕ × List ℕ} (cut_short (place end bytes)) f (rw y at e))))))
+      inl (stops_here (run_at len) W end bytes f (λ p. rw less refl) (ap fault_place (sym (err_is {A = List ℕ × List ℕ} (cut_short (place end bytes)) f (rw y at e))))))
   | inr g ↦ absurd (let bad : Ok (take len bytes, drop len bytes) ≡ Err f = rw g at e in cc)
 ]
 
-pub within_tied : (contents : Place → ℕ → ℕ → Reader Attribute) (pool : Pool) (stand : Place) (name at len : ℕ) → is_text pool name ≡ true → ((end : ℕ) (f : Fault) → contents stand name at end [] ≡ Err f → is_cut f ≡ true)
+pub within_tied : (contents : Place → ℕ → ℕ → Reader Attribute) (pool : Pool) (stand : Place) (name at len : ℕ) → leads_to_text pool name ≡ true → ((end : ℕ) (f : Fault) → contents stand name at end [] ≡ Err f → is_cut f ≡ true)
     → Tied (suc at) (IsAt at) (IsInContent contents pool) (within at len (contents stand name at))
 unfolding within whole run_at
 within_tied contents pool stand name at len named nothing end bytes f are room e = go (bind_err (run_at len end bytes) behind f e)
@@ -202,8 +202,8 @@ within_tied contents pool stand name at len named nothing end bytes f are room e
     none : 0 < len → CutsNothing (within at len inner)
     none some p = let less : ltb 0 len ≡ true = lt-ltb 0 len some in rw less refl
 
-    here : (g : Fault) → failed {A = Attribute × List ℕ} g ≡ failed {A = Attribute × List ℕ} f → place_of f ≡ place_of g
-    here g same = ap place_of (sym (err_is {A = Attribute × List ℕ} g f same))
+    here : (g : Fault) → failed {A = Attribute × List ℕ} g ≡ failed {A = Attribute × List ℕ} f → fault_place f ≡ fault_place g
+    here g same = ap fault_place (sym (err_is {A = Attribute × List ℕ} g f same))
 
     judged : (run after : List ℕ) → run_at len end bytes ≡ Ok (run, after) → (found : Reading Attribute) → inner (place end after) run ≡ found → whole at (place end after) after found ≡ Err f → Stops (within at len inner) (IsInContent contents pool) end bytes f ⊎ IsAt at f
     judged run after is (Ok x) was e = elim (cases_Bool (eqb (length x.1) 0)) [
@@ -211,7 +211,7 @@ within_tied contents pool stand name at len named nothing end bytes f are room e
       | inr g ↦ inr (here (bad_attribute at (goes_on (place (place end after) x.1) (place end after))) (rw g at e))
     ]
     judged run after is (Err g) was e = elim (cases_Bool (is_cut g)) [
-      | inl y ↦ inr (here (bad_attribute at (cut_within (place_of g) (place end after))) (rw y at e))
+      | inl y ↦ inr (here (bad_attribute at (cut_within (fault_place g) (place end after))) (rw y at e))
       | inr n ↦ (let t = (run_reads len).takes end bytes run after are is in
           let same : g ≡ f = err_is {A = Attribute × List ℕ} g f (rw n at e) in
           let found : inner (place end after) run ≡ Err f = was ∙ ap (λ (h : Fault). Err h) same in
@@ -226,7 +226,7 @@ within_tied contents pool stand name at len named nothing end bytes f are room e
     go : Failed (run_at len end bytes) behind f → Stops (within at len inner) (IsInContent contents pool) end bytes f ⊎ IsAt at f
     go (first is) = elim (cases_Bool (ltb (length bytes) len)) [
       | inl y ↦ (let long = ltb-true (length bytes) len y in
-          inl (stops_here (within at len inner) (IsInContent contents pool) end bytes f (none (omega (arith, long))) (ap place_of (sym (err_is {A = List ℕ × List ℕ} (cut_short (place end bytes)) f (rw y at is))))))
+          inl (stops_here (within at len inner) (IsInContent contents pool) end bytes f (none (omega (arith, long))) (ap fault_place (sym (err_is {A = List ℕ × List ℕ} (cut_short (place end bytes)) f (rw y at is))))))
       | inr g ↦ absurd (let bad : Ok (take len bytes, drop len bytes) ≡ Err f = rw g at is in cc)
     ]
     go (later run is is') = judged run.0 run.1 is (inner (place end run.1) run.0) refl is'

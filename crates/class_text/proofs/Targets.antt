@@ -9,8 +9,8 @@ use Rattle.class_model.specs.declared.constant_pool.Constant.TheVariants.{Second
 use Rattle.class_model.specs.declared.constant_pool.Pool.{Pool}
 use Rattle.class_model.specs.Constants.{has_targets, takes_two}
 use Rattle.class_model.specs.Spelling.{constant, pool}
-use Rattle.class_text.specs.Reading.{Fault, cut_short, bad_index, ◌>>=◌, place, place_of, number_at, or_cut, IsBytes}
-use Rattle.class_text.specs.Pool.{constant_at, constants_at, with_first, wrong_at, pool_of, unless_wrong, judged, counted_at, pool_at, IsWrongAt}
+use Rattle.class_text.specs.Reading.{Fault, cut_short, bad_index, ◌>>=◌, place, fault_place, number_at, or_cut, IsBytes}
+use Rattle.class_text.specs.Pool.{constant_at_front, constants_at, with_first_constant, wrong_at, pool_of, unless_wrong, judged, pool_behind_count, pool_at, IsWrongAt}
 use Rattle.class_text.proofs.Numbers.{Takes, some_is, wide16, number_takes}
 use Rattle.class_text.proofs.Pools.{AreTaken, constants_taken}
 use Rattle.class_text.proofs.Places.{Failed, first, later, bind_err, err_is, constant_fault}
@@ -23,22 +23,22 @@ IsOwn _ = Unit {0}
 own_constants : (end numbers : ℕ) (due : Bool) (bytes : List ℕ) (f : Fault) → constants_at end due numbers bytes ≡ Err f → IsOwn f
 unfolding constants_at IsOwn
 own_constants end zero due bytes f e = absurd cc
-own_constants end (suc numbers) true bytes f e = go (bind_err (constants_at end false numbers bytes) (with_first Second) f e) (own_constants end numbers false bytes f)
+own_constants end (suc numbers) true bytes f e = go (bind_err (constants_at end false numbers bytes) (with_first_constant Second) f e) (own_constants end numbers false bytes f)
   where
-    go : Failed (constants_at end false numbers bytes) (with_first Second) f → (constants_at end false numbers bytes ≡ Err f → IsOwn f) → IsOwn f
+    go : Failed (constants_at end false numbers bytes) (with_first_constant Second) f → (constants_at end false numbers bytes ≡ Err f → IsOwn f) → IsOwn f
     go (first is) behind = behind is
     go (later x is is') behind = absurd cc
 own_constants end (suc numbers) false bytes f e =
-    go (bind_err (constant_at end (suc numbers) bytes) (λ found. constants_at end (takes_two found.0) numbers found.1 >>= with_first found.0) f e) (λ due after. own_constants end numbers due after f)
+    go (bind_err (constant_at_front end (suc numbers) bytes) (λ found. constants_at end (takes_two found.0) numbers found.1 >>= with_first_constant found.0) f e) (λ due after. own_constants end numbers due after f)
   where
-    inner : (c : Constant) (after : List ℕ) → ((due : Bool) (after' : List ℕ) → constants_at end due numbers after' ≡ Err f → IsOwn f) → Failed (constants_at end (takes_two c) numbers after) (with_first c) f → IsOwn f
+    inner : (c : Constant) (after : List ℕ) → ((due : Bool) (after' : List ℕ) → constants_at end due numbers after' ≡ Err f → IsOwn f) → Failed (constants_at end (takes_two c) numbers after) (with_first_constant c) f → IsOwn f
     inner c after behind (first is) = behind (takes_two c) after is
     inner c after behind (later x is is') = absurd cc
 
-    go : Failed (constant_at end (suc numbers) bytes) (λ found. constants_at end (takes_two found.0) numbers found.1 >>= with_first found.0) f
+    go : Failed (constant_at_front end (suc numbers) bytes) (λ found. constants_at end (takes_two found.0) numbers found.1 >>= with_first_constant found.0) f
         → ((due : Bool) (after' : List ℕ) → constants_at end due numbers after' ≡ Err f → IsOwn f) → IsOwn f
     go (first is) behind = constant_fault IsOwn end (suc numbers) bytes f tt (λ some. (λ tag. tt, tt)) is
-    go (later x is is') behind = inner x.0 x.1 behind (bind_err (constants_at end (takes_two x.0) numbers x.1) (with_first x.0) f is')
+    go (later x is is') behind = inner x.0 x.1 behind (bind_err (constants_at end (takes_two x.0) numbers x.1) (with_first_constant x.0) f is')
 
 -- the constants of a list round the first with a wrong target
 pub record Split (p : Pool) (end : ℕ) (cs : List Constant) (after : List ℕ) (at : ℕ) : Type 0 where
@@ -75,7 +75,7 @@ first_wrong end bytes at are small e = go (number_at w16 bytes) refl e
     start = place end bytes
 
     place_is : (p : ℕ) → bad_index p ≡ bad_index at → at ≡ p
-    place_is p e = ap place_of (sym e)
+    place_is p e = ap fault_place (sym e)
 
     -- the constants were read, and one of them is wrong
     found_wrong : (count : ℕ) (rest : List ℕ) (cs : List Constant) (after : List ℕ) → Takes bytes (to_be_bytes w16 count) rest → eqb count 0 ≡ false → AreTaken false (count - 1) rest cs after
@@ -109,12 +109,12 @@ first_wrong end bytes at are small e = go (number_at w16 bytes) refl e
     constants count rest t some (later x is is') =
         found_wrong count rest x.0 x.1 t some (constants_taken end (count - 1) false rest x.0 x.1 t.rest_fits (λ due. absurd (let h : false ≡ true = due in cc)) is) (wrong_at (pool_of x.0) (place end rest) x.0) refl is'
 
-    counted : (count : ℕ) (rest : List ℕ) → Takes bytes (to_be_bytes w16 count) rest → counted_at end start (count, rest) ≡ Err f → IsWrongAt end bytes at
+    counted : (count : ℕ) (rest : List ℕ) → Takes bytes (to_be_bytes w16 count) rest → pool_behind_count end start (count, rest) ≡ Err f → IsWrongAt end bytes at
     counted count rest t e = elim (cases_Bool (eqb count 0)) [
       | inl y ↦ inl (place_is start (err_is (bad_index start) f (rw y at e)), (rest, t.parts ∙ ap (λ (n : ℕ). to_be_bytes w16 n ++ rest) (eqb-true count 0 y)))
       | inr g ↦ constants count rest t g (bind_err (constants_at end false (count - 1) rest) (judged (place end rest)) f (rw g at e))
     ]
 
-    go : (found : Option (ℕ × List ℕ)) → number_at w16 bytes ≡ found → (or_cut start found >>= counted_at end start) ≡ Err f → IsWrongAt end bytes at
+    go : (found : Option (ℕ × List ℕ)) → number_at w16 bytes ≡ found → (or_cut start found >>= pool_behind_count end start) ≡ Err f → IsWrongAt end bytes at
     go None is e = absurd (let bad : cut_short start ≡ bad_index at = err_is (cut_short start) f e in cc)
     go (Some x) is e = counted x.0 x.1 (number_takes w16 (2 ^ 16) wide16 bytes x.0 x.1 are is).0 e

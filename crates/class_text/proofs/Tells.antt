@@ -4,7 +4,7 @@ use Rattle.std.specs.Int.{Width, byte_len, from_be_bytes, w16, w32, to_be_bytes}
 use Rattle.std.proofs.lemmas.Bool.{cases_Bool, ltb-true, eqb-false}
 use Rattle.std.proofs.lemmas.List.{length-append}
 use Rattle.std.proofs.lemmas.Grind.{flat_map-append}
-use Rattle.class_text.specs.Reading.{Fault, cut_short, astray, bad_attribute, cut_within, goes_on, place_of, is_cut, Reading, place, IsBytes}
+use Rattle.class_text.specs.Reading.{Fault, cut_short, astray, bad_attribute, cut_within, goes_on, fault_place, is_cut, Reading, place, IsBytes}
 use Rattle.class_text.specs.Readers.{Reader, u1_at, u2_at, u4_at, index_at, many_after, counted_at, counted_after, run_at, whole, within}
 use Rattle.class_text.specs.Meanings.{StandsAt, IsLeftOver}
 use Rattle.class_text.proofs.Numbers.{bind_ok, ok_is}
@@ -191,7 +191,7 @@ module _ (file : List ℕ) (start : ℕ) (M : ℕ → Fault → Type 0) where
 
   -- the content of the attribute at a place is cut where it says so, or something of it is left over
   abbrev pub Cut : ℕ → Type 0
-  Cut at = (end stop : ℕ) (g : Fault) → is_cut g ≡ true → stop ≤ length file → M stop g → M end (bad_attribute at (cut_within (place_of g) stop))
+  Cut at = (end stop : ℕ) (g : Fault) → is_cut g ≡ true → stop ≤ length file → M stop g → M end (bad_attribute at (cut_within (fault_place g) stop))
 
   abbrev pub Left : ℕ → Type 0
   Left at = (end from stop : ℕ) → IsLeftOver file from stop → M end (bad_attribute at (goes_on from stop))
@@ -217,7 +217,7 @@ module _ (file : List ℕ) (start : ℕ) (M : ℕ → Fault → Type 0) where
         | inr n ↦ subst (M end) (err_is {A = A × List ℕ} (bad_attribute at (goes_on (place stop x.1) stop)) f (rw n at e)) (over end (place stop x.1) stop (left_over stop x.1 (behind x.0 x.1 refl) n))
       ]
       judged end stop rest f (Err g) within on behind e = elim (cases_Bool (is_cut g)) [
-        | inl y ↦ subst (M end) (err_is {A = A × List ℕ} (bad_attribute at (cut_within (place_of g) stop)) f (rw y at e)) (cut end stop g y within (on g refl))
+        | inl y ↦ subst (M end) (err_is {A = A × List ℕ} (bad_attribute at (cut_within (fault_place g) stop)) f (rw y at e)) (cut end stop g y within (on g refl))
         | inr n ↦ subst (M end) (err_is {A = A × List ℕ} g f (rw n at e)) (same stop end g n (on g refl))
       ]
 

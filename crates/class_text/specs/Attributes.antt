@@ -10,27 +10,27 @@ use Rattle.class_model.specs.Constants.{constant_at, text_at, is_some_that}
 use Rattle.class_model.specs.Attributes.{Place, in_class, in_field, in_method, in_code, is_known, is_value_for, is_loadable, is_handle, attribute_name}
 use Rattle.class_text.specs.Reading.{bad_attribute, bad_length, barred_code, second_attribute, ◌>>=◌, place}
 use Rattle.class_text.specs.Readers.{Reader, u2_at, u4_at, index_at, counted_at, counted_after, run_at, within}
-use Rattle.class_text.specs.Frames.{is_class, frame_at}
-use Rattle.class_text.specs.Elements.{is_text, note_at}
+use Rattle.class_text.specs.Frames.{leads_to_class, frame_at}
+use Rattle.class_text.specs.Elements.{leads_to_text, note_at}
 
 -- the text of a number, and nothing where it has none
-abbrev pub text_of : Pool → ℕ → List ℕ
-text_of pool n = unwrap_or (text_at pool n) []
+abbrev pub text_or_empty : Pool → ℕ → List ℕ
+text_or_empty pool n = unwrap_or (text_at pool n) []
 
 -- none of the items before is one that counts and is the same
 unfoldable pub is_first : {A : Type 0} → (A → Bool) → (A → A → Bool) → List A → A → Bool
 is_first counts same before item = not (list_any (λ earlier. counts earlier && same earlier item) before)
 
 -- the number of a class to be caught, or 0
-unfoldable pub is_caught : Pool → ℕ → Bool
-is_caught pool n = n == 0 || is_class pool n
+unfoldable pub leads_to_caught : Pool → ℕ → Bool
+leads_to_caught pool n = n == 0 || leads_to_class pool n
 
 unfoldable pub handler_at : Pool → Reader Handler
 handler_at pool end bytes =
     u2_at end bytes
     >>= (λ start. u2_at end start.1
     >>= (λ stop. u2_at end stop.1
-    >>= (λ handler. index_at (is_caught pool) end handler.1
+    >>= (λ handler. index_at (leads_to_caught pool) end handler.1
     >>= (λ caught. Ok (record { start = start.0; end = stop.0; handler = handler.0; catch_type = caught.0 }, caught.1)))))
 
 unfoldable pub leads_to_handle : Pool → ℕ → Bool
@@ -56,12 +56,12 @@ stack_map_at pool name end bytes =
     counted_at (frame_at pool) end bytes >>= (λ frames. Ok (roll-Attribute (Attribute-F.StackMap name frames.0), frames.1))
 
 -- the number of a constant that a field of a descriptor can have as its value
-unfoldable pub leads_to_value : Pool → List ℕ → ℕ → Bool
-leads_to_value pool descriptor n = is_some_that (is_value_for descriptor) (constant_at pool n)
+unfoldable pub leads_to_value_for : Pool → List ℕ → ℕ → Bool
+leads_to_value_for pool descriptor n = is_some_that (is_value_for descriptor) (constant_at pool n)
 
 unfoldable pub constant_value_at : Pool → List ℕ → ℕ → Reader Attribute
 constant_value_at pool descriptor name end bytes =
-    index_at (leads_to_value pool descriptor) end bytes
+    index_at (leads_to_value_for pool descriptor) end bytes
     >>= (λ value. Ok (roll-Attribute (Attribute-F.ConstantValue name value.0), value.1))
 
 unfoldable pub bootstraps_at : Pool → ℕ → Reader Attribute
@@ -77,7 +77,7 @@ annotations_at pool name at end bytes =
 -- the content of an attribute of code
 unfoldable pub code_content_at : Pool → ℕ → ℕ → Reader Attribute
 code_content_at pool name at end bytes =
-    if bytes_eq (codes "StackMapTable") (text_of pool name) then stack_map_at pool name end bytes
+    if bytes_eq (codes "StackMapTable") (text_or_empty pool name) then stack_map_at pool name end bytes
     else other_at name end bytes
 
 -- ---- an attribute
@@ -86,10 +86,10 @@ code_content_at pool name at end bytes =
 -- where code isn't barred.
 unfoldable pub named_at : Pool → Place → Bool → List Attribute → Reader ℕ
 named_at pool stand barred before end bytes =
-    index_at (is_text pool) end bytes
+    index_at (leads_to_text pool) end bytes
     >>= (λ name.
-    if is_first (is_known stand) bytes_eq (map (attribute_name pool) before) (text_of pool name.0) then
-    if barred && bytes_eq (codes "Code") (text_of pool name.0) then Err (bad_attribute (place end bytes) barred_code) else Ok name
+    if is_first (is_known stand) bytes_eq (map (attribute_name pool) before) (text_or_empty pool name.0) then
+    if barred && bytes_eq (codes "Code") (text_or_empty pool name.0) then Err (bad_attribute (place end bytes) barred_code) else Ok name
     else Err (second_attribute (place end bytes)))
 
 -- an attribute, whose content is read by its name and the place where the attribute stands
@@ -140,8 +140,8 @@ own_content_at pool in_code name at = stack_map_at pool name
 -- annotations.
 unfoldable pub content_at : Pool → Place → ℕ → ℕ → Reader Attribute
 content_at pool stand name at end bytes =
-    if bytes_eq (own_name stand) (text_of pool name) then own_content_at pool stand name at end bytes
-    else if is_known stand (text_of pool name) then annotations_at pool name at end bytes
+    if bytes_eq (own_name stand) (text_or_empty pool name) then own_content_at pool stand name at end bytes
+    else if is_known stand (text_or_empty pool name) then annotations_at pool name at end bytes
     else other_at name end bytes
 
 unfoldable pub attribute_at : Pool → Place → Bool → List Attribute → Reader Attribute

@@ -12,7 +12,7 @@ use Rattle.class_model.specs.Spelling.{magic}
 use Rattle.class_text.specs.Reading.{Fault, bad_magic, bad_major, code_missing, bytes_left, ◌>>=◌, place}
 use Rattle.class_text.specs.Readers.{Reader, u2_at, u4_at, index_at, counted_at, counted_after}
 use Rattle.class_text.specs.Pool.{pool_at}
-use Rattle.class_text.specs.Attributes.{text_of, is_first, attributes_at}
+use Rattle.class_text.specs.Attributes.{text_or_empty, is_first, attributes_at}
 
 -- no member before has this name and this descriptor
 unfoldable pub is_new : Pool → List Member → ℕ → ℕ → Bool
@@ -20,20 +20,20 @@ is_new pool before name descriptor =
     is_first (λ m. true) (are_same pool) before (record { flags = 0; name = name; descriptor = descriptor; attributes = [] })
 
 -- the name of a field and of a method
-unfoldable pub is_field_name : Pool → ℕ → Bool
-is_field_name pool n = is_some_that is_unqualified (text_at pool n)
+unfoldable pub leads_to_field_name : Pool → ℕ → Bool
+leads_to_field_name pool n = is_some_that is_unqualified (text_at pool n)
 
-unfoldable pub is_name_of_method : Pool → ℕ → Bool
-is_name_of_method pool n = is_some_that is_method_name (text_at pool n)
+unfoldable pub leads_to_method_name : Pool → ℕ → Bool
+leads_to_method_name pool n = is_some_that is_method_name (text_at pool n)
 
 -- a field's descriptor, of the name that was read, which no field before has
-unfoldable pub is_field_type : Pool → List Member → ℕ → ℕ → Bool
-is_field_type pool before name n =
+unfoldable pub leads_to_field_type : Pool → List Member → ℕ → ℕ → Bool
+leads_to_field_type pool before name n =
     is_some_that is_field_descriptor (text_at pool n) && is_new pool before name n
 
 -- a method's, with the slots that its flags leave
-unfoldable pub is_method_type : Pool → List Member → ℕ → ℕ → ℕ → Bool
-is_method_type pool before flags name n =
+unfoldable pub leads_to_method_type : Pool → List Member → ℕ → ℕ → ℕ → Bool
+leads_to_method_type pool before flags name n =
     is_some_that (is_method_descriptor (most_slots flags)) (text_at pool n) && is_new pool before name n
 
 -- Code may not stand on an abstract or native method.
@@ -43,16 +43,16 @@ is_barred flags = is_abstract flags || is_native flags
 unfoldable pub field_at : Pool → List Member → Reader Member
 field_at pool before end bytes =
     u2_at end bytes
-    >>= (λ flags. index_at (is_field_name pool) end flags.1
-    >>= (λ name. index_at (is_field_type pool before name.0) end name.1
-    >>= (λ descriptor. attributes_at pool (in_field (text_of pool descriptor.0)) false end descriptor.1
+    >>= (λ flags. index_at (leads_to_field_name pool) end flags.1
+    >>= (λ name. index_at (leads_to_field_type pool before name.0) end name.1
+    >>= (λ descriptor. attributes_at pool (in_field (text_or_empty pool descriptor.0)) false end descriptor.1
     >>= (λ found. Ok (record { flags = flags.0; name = name.0; descriptor = descriptor.0; attributes = found.0 }, found.1)))))
 
 unfoldable pub method_at : Pool → List Member → Reader Member
 method_at pool before end bytes =
     u2_at end bytes
-    >>= (λ flags. index_at (is_name_of_method pool) end flags.1
-    >>= (λ name. index_at (is_method_type pool before flags.0 name.0) end name.1
+    >>= (λ flags. index_at (leads_to_method_name pool) end flags.1
+    >>= (λ name. index_at (leads_to_method_type pool before flags.0 name.0) end name.1
     >>= (λ descriptor. attributes_at pool in_method (is_barred flags.0) end descriptor.1
     >>= (λ found.
     if is_barred flags.0 || has_code found.0 then
@@ -60,8 +60,8 @@ method_at pool before end bytes =
     else Err (code_missing (place end bytes))))))
 
 -- the class above a class of a number; none above `java/lang/Object` alone
-unfoldable pub is_super : Pool → ℕ → ℕ → Bool
-is_super pool this n =
+unfoldable pub leads_to_super : Pool → ℕ → ℕ → Bool
+leads_to_super pool this n =
     if n == 0 then bytes_eq (unwrap_or (class_at pool this) []) (codes "java/lang/Object") else is_plain_class pool n
 
 -- the magic, the minor and the major version
@@ -77,7 +77,7 @@ unfoldable pub behind_pool_at : ℕ → ℕ → Pool → Reader Class
 behind_pool_at minor major pool end bytes =
     u2_at end bytes
     >>= (λ flags. index_at (is_plain_class pool) end flags.1
-    >>= (λ this. index_at (is_super pool this.0) end this.1
+    >>= (λ this. index_at (leads_to_super pool this.0) end this.1
     >>= (λ super_class. counted_at (index_at (is_plain_class pool)) end super_class.1
     >>= (λ interfaces. counted_after (field_at pool) end interfaces.1
     >>= (λ fields. counted_after (method_at pool) end fields.1

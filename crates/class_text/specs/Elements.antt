@@ -15,18 +15,18 @@ use Rattle.class_text.specs.Reading.{bad_tag, bad_attribute, too_deep, ◌>>=◌
 use Rattle.class_text.specs.Readers.{Reader, u1_at, index_at, counted_at}
 
 -- the number of a text, of a type and of a type or `V`
-unfoldable pub is_text : Pool → ℕ → Bool
-is_text pool n = is_some (text_at pool n)
+unfoldable pub leads_to_text : Pool → ℕ → Bool
+leads_to_text pool n = is_some (text_at pool n)
 
-unfoldable pub is_type : Pool → ℕ → Bool
-is_type pool n = is_some_that is_field_descriptor (text_at pool n)
+unfoldable pub leads_to_type : Pool → ℕ → Bool
+leads_to_type pool n = is_some_that is_field_descriptor (text_at pool n)
 
-unfoldable pub is_result : Pool → ℕ → Bool
-is_result pool n = is_some_that is_return_descriptor (text_at pool n)
+unfoldable pub leads_to_result : Pool → ℕ → Bool
+leads_to_result pool n = is_some_that is_return_descriptor (text_at pool n)
 
 -- the number of a constant that a value of a tag is
-unfoldable pub is_value : Pool → ℕ → ℕ → Bool
-is_value pool tag n = is_some_that (is_value_of tag) (constant_at pool n)
+unfoldable pub leads_to_value_of : Pool → ℕ → ℕ → Bool
+leads_to_value_of pool tag n = is_some_that (is_value_of tag) (constant_at pool n)
 
 abbrev pub is_constant_tag : ℕ → Bool
 is_constant_tag tag = list_any (λ b. b == tag) (codes "BCDFIJSZs")
@@ -34,28 +34,28 @@ is_constant_tag tag = list_any (λ b. b == tag) (codes "BCDFIJSZs")
 -- `value` reads the values in a pair
 unfoldable pub pair_by : Reader Element → Pool → Reader Pair
 pair_by value pool end bytes =
-    index_at (is_text pool) end bytes
+    index_at (leads_to_text pool) end bytes
     >>= (λ name. value end name.1
     >>= (λ found. Ok (roll-Pair (record { name = name.0; value = found.0 }), found.1)))
 
 unfoldable pub note_by : Reader Element → Pool → Reader Note
 note_by value pool end bytes =
-    index_at (is_type pool) end bytes
+    index_at (leads_to_type pool) end bytes
     >>= (λ kind. counted_at (pair_by value pool) end kind.1
     >>= (λ pairs. Ok (roll-Note (record { kind = kind.0; pairs = pairs.0 }), pairs.1)))
 
 unfoldable pub enum_at : Pool → Reader Element
 enum_at pool end bytes =
-    index_at (is_type pool) end bytes
-    >>= (λ kind. index_at (is_text pool) end kind.1
+    index_at (leads_to_type pool) end bytes
+    >>= (λ kind. index_at (leads_to_text pool) end kind.1
     >>= (λ name. Ok (roll-Element (Element-F.Enum kind.0 name.0), name.1)))
 
 -- what stands behind the tag of a value; the tag's own place names it where it is none
 unfoldable pub tagged_by : Reader Element → Pool → ℕ → ℕ → Reader Element
 tagged_by value pool at tag end bytes =
-    if is_constant_tag tag then index_at (is_value pool tag) end bytes >>= (λ n. Ok (roll-Element (Element-F.Const tag n.0), n.1))
+    if is_constant_tag tag then index_at (leads_to_value_of pool tag) end bytes >>= (λ n. Ok (roll-Element (Element-F.Const tag n.0), n.1))
     else if tag == byte "e" then enum_at pool end bytes
-    else if tag == byte "c" then index_at (is_result pool) end bytes >>= (λ n. Ok (roll-Element (Element-F.OfClass n.0), n.1))
+    else if tag == byte "c" then index_at (leads_to_result pool) end bytes >>= (λ n. Ok (roll-Element (Element-F.OfClass n.0), n.1))
     else if tag == byte "@" then note_by value pool end bytes >>= (λ note. Ok (roll-Element (Element-F.Nested note.0), note.1))
     else if tag == byte "[" then counted_at value end bytes >>= (λ values. Ok (roll-Element (Element-F.Many values.0), values.1))
     else Err (bad_tag at tag)

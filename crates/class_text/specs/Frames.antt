@@ -8,18 +8,18 @@ use Rattle.class_text.specs.Reading.{bad_tag, ◌>>=◌, place}
 use Rattle.class_text.specs.Readers.{Reader, u1_at, u2_at, index_at, many_at, counted_at}
 
 -- the number of a class or an array class
-unfoldable pub is_class : Pool → ℕ → Bool
-is_class pool n = is_some_that is_class_constant (constant_at pool n)
+unfoldable pub leads_to_class : Pool → ℕ → Bool
+leads_to_class pool n = is_some_that is_class_constant (constant_at pool n)
 
-abbrev pub type_of : ℕ → ℕ → FrameType
-type_of tag index = record { tag = tag; index = index }
+abbrev pub frame_type_of : ℕ → ℕ → FrameType
+frame_type_of tag index = record { tag = tag; index = index }
 
 -- what stands behind the tag of a type; the tag's own place names it where it is none
 unfoldable pub typed_at : Pool → ℕ → ℕ → Reader FrameType
 typed_at pool at tag end bytes =
-    if nat_lt tag 7 then Ok (type_of tag 0, bytes)
-    else if tag == 7 then index_at (is_class pool) end bytes >>= (λ class. Ok (type_of tag class.0, class.1))
-    else if tag == 8 then u2_at end bytes >>= (λ pc. Ok (type_of tag pc.0, pc.1))
+    if nat_lt tag 7 then Ok (frame_type_of tag 0, bytes)
+    else if tag == 7 then index_at (leads_to_class pool) end bytes >>= (λ class. Ok (frame_type_of tag class.0, class.1))
+    else if tag == 8 then u2_at end bytes >>= (λ pc. Ok (frame_type_of tag pc.0, pc.1))
     else Err (bad_tag at tag)
 
 unfoldable pub frame_type_at : Pool → Reader FrameType

@@ -11,10 +11,10 @@ use Rattle.class_model.specs.Shape.{is_plain_class, has_code}
 use Rattle.class_model.specs.Spelling as spelling
 use Rattle.class_text.specs.Reading.{Badness, cut_within, goes_on, bad_length, too_deep, barred_code, Fault, cut_short, bad_tag, bad_text, bad_index, astray, bad_magic, bad_major, bad_attribute, second_attribute, code_missing, bytes_left, place}
 use Rattle.class_text.specs.Pool.{pool_at, is_tag, is_wide, IsWrongAt}
-use Rattle.class_text.specs.Frames.{is_class}
-use Rattle.class_text.specs.Elements.{is_text, is_type, is_result, is_value}
-use Rattle.class_text.specs.Attributes.{text_of, is_first, is_caught, leads_to_handle, leads_to_loadable, leads_to_value}
-use Rattle.class_text.specs.Classes.{is_field_name, is_name_of_method, is_field_type, is_method_type, is_barred, is_super, class_of}
+use Rattle.class_text.specs.Frames.{leads_to_class}
+use Rattle.class_text.specs.Elements.{leads_to_text, leads_to_type, leads_to_result, leads_to_value_of}
+use Rattle.class_text.specs.Attributes.{text_or_empty, is_first, leads_to_caught, leads_to_handle, leads_to_loadable, leads_to_value_for}
+use Rattle.class_text.specs.Classes.{leads_to_field_name, leads_to_method_name, leads_to_field_type, leads_to_method_type, is_barred, leads_to_super, class_of}
 
 -- bytes that stand at a place of a file
 pub record StandsAt (file : List ℕ) (at : ℕ) (item : List ℕ) : Type 0 where
@@ -42,21 +42,21 @@ pub data Wanted : Type 0 where
   a_field_value : List ℕ → Wanted
 
 abbrev pub leads : Pool → Wanted → ℕ → Bool
-leads pool a_text n = is_text pool n
-leads pool a_type n = is_type pool n
-leads pool a_result n = is_result pool n
-leads pool (a_value tag) n = is_value pool tag n
-leads pool a_class n = is_class pool n
-leads pool a_caught_class n = is_caught pool n
+leads pool a_text n = leads_to_text pool n
+leads pool a_type n = leads_to_type pool n
+leads pool a_result n = leads_to_result pool n
+leads pool (a_value tag) n = leads_to_value_of pool tag n
+leads pool a_class n = leads_to_class pool n
+leads pool a_caught_class n = leads_to_caught pool n
 leads pool a_plain_class n = is_plain_class pool n
-leads pool (a_super_class this) n = is_super pool this n
-leads pool a_field_name n = is_field_name pool n
-leads pool a_method_name n = is_name_of_method pool n
-leads pool (a_field_type before name) n = is_field_type pool before name n
-leads pool (a_method_type before flags name) n = is_method_type pool before flags name n
+leads pool (a_super_class this) n = leads_to_super pool this n
+leads pool a_field_name n = leads_to_field_name pool n
+leads pool a_method_name n = leads_to_method_name pool n
+leads pool (a_field_type before name) n = leads_to_field_type pool before name n
+leads pool (a_method_type before flags name) n = leads_to_method_type pool before flags name n
 leads pool a_handle n = leads_to_handle pool n
 leads pool a_loadable_constant n = leads_to_loadable pool n
-leads pool (a_field_value descriptor) n = leads_to_value pool descriptor n
+leads pool (a_field_value descriptor) n = leads_to_value_for pool descriptor n
 
 -- Behind a cut fewer than 2^32 bytes are left, so that nothing is cut there once so many more follow.
 abbrev pub IsShort : ℕ → ℕ → Type 0
@@ -77,7 +77,7 @@ pub record IsAstray (pool : Pool) (file : List ℕ) (start at : ℕ) (numbers : 
 pub record IsNameAt (pool : Pool) (file : List ℕ) (start at name : ℕ) : Type 0 where
   pub stands : StandsAt file at (to_be_bytes w16 name)
   pub behind : start ≤ at
-  pub text : is_text pool name ≡ true
+  pub text : leads_to_text pool name ≡ true
 
 -- Fewer than 2^32 bytes of a part that goes on to an end stand behind a place in it.
 pub record IsCutAt (start end at : ℕ) : Type 0 where
@@ -103,9 +103,9 @@ pub record IsBadLength (file : List ℕ) (start len : ℕ) : Type 0 where
 abbrev pub IsBadFor : Pool → List ℕ → ℕ → ℕ → Badness → Type 0
 IsBadFor pool file start name (cut_within at stop) = IsCutAt start stop at × (stop ≤ length file)
 IsBadFor pool file start name (goes_on at stop) = IsLeftOver file at stop
-IsBadFor pool file start name (bad_length len) = IsBadLength file start len × (text_of pool name ≡ codes "Code")
-IsBadFor pool file start name too_deep = text_of pool name ≡ codes "RuntimeVisibleAnnotations"
-IsBadFor pool file start name barred_code = text_of pool name ≡ codes "Code"
+IsBadFor pool file start name (bad_length len) = IsBadLength file start len × (text_or_empty pool name ≡ codes "Code")
+IsBadFor pool file start name too_deep = text_or_empty pool name ≡ codes "RuntimeVisibleAnnotations"
+IsBadFor pool file start name barred_code = text_or_empty pool name ≡ codes "Code"
 
 -- The name of an attribute stands there that is bad for this reason.
 pub record IsBadAttribute (pool : Pool) (file : List ℕ) (start at : ℕ) (why : Badness) : Type 0 where
@@ -125,7 +125,7 @@ pub record IsNameTwice (pool : Pool) (file : List ℕ) (start at : ℕ) : Type 0
   pub stands : StandsAt file from (text ++ to_be_bytes w16 name)
   pub here : at ≡ from + length text
   pub behind : start ≤ from
-  pub twice : is_first (is_known place) bytes_eq (map (attribute_name pool) before) (text_of pool name) ≡ false
+  pub twice : is_first (is_known place) bytes_eq (map (attribute_name pool) before) (text_or_empty pool name) ≡ false
 
 -- A method stands there that is neither abstract nor native, and has no code.
 pub record IsWithoutCode (file : List ℕ) (start at : ℕ) : Type 0 where

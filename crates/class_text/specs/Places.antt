@@ -4,10 +4,10 @@ use Rattle.class_model.specs.declared.constant_pool.Pool.{Pool}
 use Rattle.class_model.specs.declared.class_file.Class.{Class}
 use Rattle.class_model.specs.declared.attribute_forms.Attribute.{Attribute}
 use Rattle.class_model.specs.Attributes.{Place}
-use Rattle.class_text.specs.Reading.{Fault, cut_short, bytes_left, place_of, place}
+use Rattle.class_text.specs.Reading.{Fault, cut_short, bytes_left, fault_place, place}
 use Rattle.class_text.specs.Readers.{Reader}
 use Rattle.class_text.specs.Pool.{pool_at}
-use Rattle.class_text.specs.Elements.{is_text}
+use Rattle.class_text.specs.Elements.{leads_to_text}
 use Rattle.class_text.specs.Attributes.{content_at, code_content_at}
 
 -- The bytes before a place, read alone, have no fault but that they are cut, there or earlier.
@@ -18,17 +18,17 @@ IsOnlyCut at answer = (earlier : ℕ) × (earlier ≤ at) × (answer ≡ Err (cu
 -- bad place the front of one.
 abbrev pub IsGoodBefore : Fault → Result Class Fault → Type 0
 IsGoodBefore (bytes_left at) answer = (c : Class) × (answer ≡ Ok c)
-IsGoodBefore fault answer = IsOnlyCut (place_of fault) answer
+IsGoodBefore fault answer = IsOnlyCut (fault_place fault) answer
 
 -- a fault is at a byte before the end; a cut may be at the end
 abbrev pub IsWithin : ℕ → Fault → Type 0
 IsWithin end (cut_short at) = at ≤ end
-IsWithin end fault = place_of fault < end
+IsWithin end fault = fault_place fault < end
 
 -- The bytes of a reader that go on to an end: those before the place of a fault, read alone, are only cut.
 abbrev pub IsCutBefore : {A : Type 0} → Reader A → ℕ → List ℕ → Fault → Type 0
 IsCutBefore read end bytes fault =
-    IsOnlyCut (place_of fault) (read (place_of fault) (take (place_of fault - place end bytes) bytes))
+    IsOnlyCut (fault_place fault) (read (fault_place fault) (take (fault_place fault - place end bytes) bytes))
 
 -- A fault of the content of an attribute, which is read by where the attribute stands, its name and its place. The content
 -- stands at the front of bytes that go on to an end, behind that place.
@@ -39,7 +39,7 @@ pub record IsInContent (contents : Place → ℕ → ℕ → Reader Attribute) (
   pub content : List ℕ
   pub back : List ℕ
   pub parts : bytes ≡ content ++ back
-  pub named : is_text pool name ≡ true
+  pub named : leads_to_text pool name ≡ true
   pub begins : at < place end bytes
   pub found : contents stand name at (place end back) content ≡ Err fault
 
@@ -54,7 +54,7 @@ pub record Stops {A : Type 0} (read : Reader A) (Has : ℕ → List ℕ → Faul
   pub rest : List ℕ
   pub parts : bytes ≡ front ++ rest
   pub cut : read (place end rest) front ≡ Err (cut_short (place end rest))
-  pub what : (place_of fault ≡ place end rest) ⊎ Has end rest fault
+  pub what : (fault_place fault ≡ place end rest) ⊎ Has end rest fault
 
 -- what stands at a place of a file is the content of an attribute, under the pool of the file
 abbrev pub IsInFile : List ℕ → ℕ → List ℕ → Fault → Type 0

@@ -19,60 +19,60 @@ abbrev pub is_wide : ℕ → Bool
 is_wide tag = tag == 5 || tag == 6
 
 -- constants of one number, and of two of two bytes
-abbrev pub of_one : Width → (ℕ → Constant) → List ℕ → Option (Constant × List ℕ)
-of_one w make bytes = option_map (λ n. (make n.0, n.1)) (number_at w bytes)
+abbrev pub constant_of_one : Width → (ℕ → Constant) → List ℕ → Option (Constant × List ℕ)
+constant_of_one w make bytes = option_map (λ n. (make n.0, n.1)) (number_at w bytes)
 
-abbrev pub of_two : (ℕ → ℕ → Constant) → List ℕ → Option (Constant × List ℕ)
-of_two make bytes = option_and_then (λ m. option_map (λ n. (make m.0 n.0, n.1)) (number_at w16 m.1)) (number_at w16 bytes)
+abbrev pub constant_of_two : (ℕ → ℕ → Constant) → List ℕ → Option (Constant × List ℕ)
+constant_of_two make bytes = option_and_then (λ m. option_map (λ n. (make m.0 n.0, n.1)) (number_at w16 m.1)) (number_at w16 bytes)
 
 -- a method handle has a kind of one byte
-abbrev pub handle_at : List ℕ → Option (Constant × List ℕ)
-handle_at [] = None
-handle_at (kind ∷ bytes) = of_one w16 (Handle kind) bytes
+abbrev pub method_handle_at : List ℕ → Option (Constant × List ℕ)
+method_handle_at [] = None
+method_handle_at (kind ∷ bytes) = constant_of_one w16 (Handle kind) bytes
 
 -- what stands behind a tag, but for a text; None where it is cut
 unfoldable pub fixed_at : ℕ → List ℕ → Option (Constant × List ℕ)
 fixed_at tag bytes =
-    if tag == 3 then of_one w32 Integer bytes
-    else if tag == 4 then of_one w32 Float bytes
-    else if tag == 5 then of_one w64 Long bytes
-    else if tag == 6 then of_one w64 Double bytes
-    else if tag == 7 then of_one w16 Class bytes
-    else if tag == 8 then of_one w16 Text bytes
-    else if tag == 12 then of_two NameType bytes
-    else if tag == 15 then handle_at bytes
-    else if tag == 16 then of_one w16 MethodType bytes
-    else if tag == 18 then of_two InvokeDynamic bytes
-    else of_two (Ref tag) bytes
+    if tag == 3 then constant_of_one w32 Integer bytes
+    else if tag == 4 then constant_of_one w32 Float bytes
+    else if tag == 5 then constant_of_one w64 Long bytes
+    else if tag == 6 then constant_of_one w64 Double bytes
+    else if tag == 7 then constant_of_one w16 Class bytes
+    else if tag == 8 then constant_of_one w16 Text bytes
+    else if tag == 12 then constant_of_two NameType bytes
+    else if tag == 15 then method_handle_at bytes
+    else if tag == 16 then constant_of_one w16 MethodType bytes
+    else if tag == 18 then constant_of_two InvokeDynamic bytes
+    else constant_of_two (Ref tag) bytes
 
 -- a text behind its length; it is looked at once it is whole
-abbrev pub text_of : ℕ → ℕ × List ℕ → Reading Constant
-text_of at n =
+abbrev pub text_behind_length : ℕ → ℕ × List ℕ → Reading Constant
+text_behind_length at n =
     if nat_lt (length n.1) n.0 then Err (cut_short at)
     else if is_text (take n.0 n.1) then Ok (Utf8 (take n.0 n.1), drop n.0 n.1)
     else Err (bad_text at)
 
 unfoldable pub utf8_at : ℕ → List ℕ → Reading Constant
-utf8_at at bytes = or_cut at (number_at w16 bytes) >>= text_of at
+utf8_at at bytes = or_cut at (number_at w16 bytes) >>= text_behind_length at
 
 -- A constant, where so many numbers are left. Its own place names each of its faults.
-unfoldable pub constant_at : ℕ → ℕ → List ℕ → Reading Constant
-constant_at end left [] = Err (cut_short (place end []))
-constant_at end left (tag ∷ bytes) =
+unfoldable pub constant_at_front : ℕ → ℕ → List ℕ → Reading Constant
+constant_at_front end left [] = Err (cut_short (place end []))
+constant_at_front end left (tag ∷ bytes) =
     if not (is_tag tag) then Err (bad_tag (place end (tag ∷ bytes)) tag)
     else if is_wide tag && nat_lt left 2 then Err (bad_tag (place end (tag ∷ bytes)) tag)
     else if tag == 1 then utf8_at (place end (tag ∷ bytes)) bytes
     else or_cut (place end (tag ∷ bytes)) (fixed_at tag bytes)
 
-abbrev pub with_first : Constant → List Constant × List ℕ → Reading (List Constant)
-with_first first others = Ok (first ∷ others.0, others.1)
+abbrev pub with_first_constant : Constant → List Constant × List ℕ → Reading (List Constant)
+with_first_constant first others = Ok (first ∷ others.0, others.1)
 
 -- the constants of so many numbers; `due` says that a Second is to come
 unfoldable pub constants_at : ℕ → Bool → ℕ → List ℕ → Reading (List Constant)
 constants_at end due zero bytes = Ok ([], bytes)
-constants_at end true (suc left) bytes = constants_at end false left bytes >>= with_first Second
+constants_at end true (suc left) bytes = constants_at end false left bytes >>= with_first_constant Second
 constants_at end false (suc left) bytes =
-    constant_at end (suc left) bytes >>= (λ found. constants_at end (takes_two found.0) left found.1 >>= with_first found.0)
+    constant_at_front end (suc left) bytes >>= (λ found. constants_at end (takes_two found.0) left found.1 >>= with_first_constant found.0)
 
 -- the place of the first constant with a wrong target, of those that stand from a place on
 unfoldable pub wrong_at : Pool → ℕ → List Constant → Option ℕ
@@ -92,14 +92,14 @@ abbrev pub judged : ℕ → List Constant × List ℕ → Reading Pool
 judged at found = unless_wrong found (wrong_at (pool_of found.0) at found.0)
 
 -- the constants behind their count, and then their targets
-abbrev pub counted_at : ℕ → ℕ → ℕ × List ℕ → Reading Pool
-counted_at end at count =
+abbrev pub pool_behind_count : ℕ → ℕ → ℕ × List ℕ → Reading Pool
+pool_behind_count end at count =
     if count.0 == 0 then Err (bad_index at)
     else constants_at end false (count.0 - 1) count.1 >>= judged (place end count.1)
 
 -- the pool at the front of bytes that go on to the end of the file, or the first bad place
 unfoldable pub pool_at : ℕ → List ℕ → Reading Pool
-pool_at end bytes = or_cut (place end bytes) (number_at w16 bytes) >>= counted_at end (place end bytes)
+pool_at end bytes = or_cut (place end bytes) (number_at w16 bytes) >>= pool_behind_count end (place end bytes)
 
 -- Constants that are good by themselves stand before a place, and behind the count, if it isn't the count's own. Each Long
 -- and Double among them has its Second, and with the count's own number they are fewer than the count.

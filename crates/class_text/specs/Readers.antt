@@ -1,7 +1,7 @@
 -- Readers from their parts: numbers, indices, lists, and runs of a given length. One part after another is `>>=`.
 use Rattle.std.specs.Prelude.{ℕ, zero, suc, Bool, ◌==◌, nat_lt, List, [], ◌∷◌, ◌++◌, length, take, drop, Ok, Err, if◌then◌else◌}
 use Rattle.std.specs.Int.{w16, w32}
-use Rattle.class_text.specs.Reading.{cut_short, astray, bad_attribute, cut_within, goes_on, place_of, is_cut, Reading, ◌>>=◌, place, number_at, or_cut}
+use Rattle.class_text.specs.Reading.{cut_short, astray, bad_attribute, cut_within, goes_on, fault_place, is_cut, Reading, ◌>>=◌, place, number_at, or_cut}
 
 -- what stands at the front of bytes that go on to an end
 abbrev pub Reader : Type 0 → Type 0
@@ -51,7 +51,7 @@ run_at len end bytes =
 unfoldable pub whole : {A : Type 0} → ℕ → ℕ → List ℕ → Reading A → Reading A
 whole at stop rest (Ok found) =
     if length found.1 == 0 then Ok (found.0, rest) else Err (bad_attribute at (goes_on (place stop found.1) stop))
-whole at stop rest (Err fault) = Err (if is_cut fault then bad_attribute at (cut_within (place_of fault) stop) else fault)
+whole at stop rest (Err fault) = Err (if is_cut fault then bad_attribute at (cut_within (fault_place fault) stop) else fault)
 
 -- The content of an attribute at a place is taken whole before it is looked at.
 unfoldable pub within : {A : Type 0} → ℕ → ℕ → Reader A → Reader A

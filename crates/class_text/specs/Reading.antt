@@ -28,18 +28,18 @@ pub data Fault : Type 0 where
   bytes_left : ℕ → Fault
 
 -- a file begins with its magic, and the major version stands behind it and the minor one
-abbrev pub place_of : Fault → ℕ
-place_of (cut_short at) = at
-place_of (bad_tag at tag) = at
-place_of (bad_text at) = at
-place_of (bad_index at) = at
-place_of (astray at leads) = at
-place_of bad_magic = 0
-place_of (bad_major version) = 6
-place_of (bad_attribute at why) = at
-place_of (second_attribute at) = at
-place_of (code_missing at) = at
-place_of (bytes_left at) = at
+abbrev pub fault_place : Fault → ℕ
+fault_place (cut_short at) = at
+fault_place (bad_tag at tag) = at
+fault_place (bad_text at) = at
+fault_place (bad_index at) = at
+fault_place (astray at leads) = at
+fault_place bad_magic = 0
+fault_place (bad_major version) = 6
+fault_place (bad_attribute at why) = at
+fault_place (second_attribute at) = at
+fault_place (code_missing at) = at
+fault_place (bytes_left at) = at
 
 abbrev pub is_cut : Fault → Bool
 is_cut (cut_short at) = true

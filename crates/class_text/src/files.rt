@@ -7,8 +7,8 @@ ghost use Rattle.class_model.specs.Attributes.{Place};
 ghost use Rattle.class_model.specs.Constants.{IsPool};
 ghost use Rattle.class_model.specs.Shape.{Shaped};
 ghost use Rattle.class_model.specs.Spelling as spelling;
-ghost use Rattle.class_text.specs.Reading.{Fault, cut_short, is_cut, place_of, place, IsBytes};
-ghost use Rattle.class_text.specs.Elements.{is_text};
+ghost use Rattle.class_text.specs.Reading.{Fault, cut_short, is_cut, fault_place, place, IsBytes};
+ghost use Rattle.class_text.specs.Elements.{leads_to_text};
 ghost use Rattle.class_text.specs.Attributes.{content_at, code_content_at, code_at};
 ghost use Rattle.class_text.specs.Classes.{class_of, class_at_front};
 ghost use Rattle.class_text.specs.Meanings.{IsMeant};
@@ -35,8 +35,8 @@ pub fn class_continued_law()
 /// behind a front that is cut where it ends: the fault is named there, or the content of an attribute begins there and
 /// has it, read under the pool of the file. A fault is at a byte of the file; a cut may be at its end.
 pub fn class_place_law()
-    ensures good { (bytes : List ℕ) (fault : Fault) → IsBytes bytes → class_of bytes ≡ Err fault → IsGoodBefore fault (class_of (take (place_of fault) bytes)) }
-    ensures shorter { (bytes : List ℕ) (fault : Fault) (n : ℕ) → IsBytes bytes → n < place_of fault → class_of bytes ≡ Err fault
+    ensures good { (bytes : List ℕ) (fault : Fault) → IsBytes bytes → class_of bytes ≡ Err fault → IsGoodBefore fault (class_of (take (fault_place fault) bytes)) }
+    ensures shorter { (bytes : List ℕ) (fault : Fault) (n : ℕ) → IsBytes bytes → n < fault_place fault → class_of bytes ≡ Err fault
         → IsOnlyCut n (class_of (take n bytes)) }
     ensures stops { (bytes : List ℕ) (fault : Fault) → IsBytes bytes → class_of bytes ≡ Err fault → is_left fault ≡ false
         → Stops class_at_front (IsInFile bytes) (length bytes) bytes fault }
@@ -61,12 +61,12 @@ pub fn class_fault_law()
 /// Reading code stops at the place of a fault, or at the content of one of its own attributes, which has it; code that
 /// is bad as a whole is named by the place of its attribute.
 pub fn content_place_law()
-    ensures content { (pool : Pool) (stand : Place) (name at end : ℕ) (bytes : List ℕ) (fault : Fault) → IsPool pool → is_text pool name ≡ true
-        → IsBytes bytes → at + length bytes < end → content_at pool stand name at end bytes ≡ Err fault → place end bytes ≤ place_of fault
+    ensures content { (pool : Pool) (stand : Place) (name at end : ℕ) (bytes : List ℕ) (fault : Fault) → IsPool pool → leads_to_text pool name ≡ true
+        → IsBytes bytes → at + length bytes < end → content_at pool stand name at end bytes ≡ Err fault → place end bytes ≤ fault_place fault
         → IsCutBefore (content_at pool stand name at) end bytes fault }
-    ensures code { (pool : Pool) (name at end : ℕ) (bytes : List ℕ) (fault : Fault) → IsPool pool → is_text pool name ≡ true
-        → IsBytes bytes → at + length bytes < end → code_content_at pool name at end bytes ≡ Err fault → place end bytes ≤ place_of fault
+    ensures code { (pool : Pool) (name at end : ℕ) (bytes : List ℕ) (fault : Fault) → IsPool pool → leads_to_text pool name ≡ true
+        → IsBytes bytes → at + length bytes < end → code_content_at pool name at end bytes ≡ Err fault → place end bytes ≤ fault_place fault
         → IsCutBefore (code_content_at pool name at) end bytes fault }
     ensures inner { (pool : Pool) (name at end : ℕ) (bytes : List ℕ) (fault : Fault) → IsPool pool → IsBytes bytes → at + length bytes < end
-        → code_at pool name at end bytes ≡ Err fault → (place_of fault ≡ at) ⊎ Stops (code_at pool name at) (IsInCode pool) end bytes fault }
+        → code_at pool name at end bytes ≡ Err fault → (fault_place fault ≡ at) ⊎ Stops (code_at pool name at) (IsInCode pool) end bytes fault }
 {}

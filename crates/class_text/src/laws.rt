@@ -4,7 +4,7 @@ ghost use Rattle.std.specs.Prelude.{◌≡◌, ◌+◌, ◌++◌, ◌≤◌, ℕ
 ghost use Rattle.class_model.specs.declared.constant_pool.Pool.{Pool};
 ghost use Rattle.class_model.specs.Constants.{IsPool};
 ghost use Rattle.class_model.specs.Spelling as spelling;
-ghost use Rattle.class_text.specs.Reading.{Fault, bad_index, place_of, is_cut, IsBytes};
+ghost use Rattle.class_text.specs.Reading.{Fault, bad_index, fault_place, is_cut, IsBytes};
 ghost use Rattle.class_text.specs.Meanings.{IsMeantInPool};
 ghost use Rattle.class_text.specs.Pool.{pool_at, OnlyGoodBefore, IsWrongAt};
 
@@ -20,7 +20,7 @@ pub fn pool_laws()
 /// the count's own.
 pub fn place_law()
     ensures { (end : ℕ) (bytes : List ℕ) (fault : Fault) → IsBytes bytes → length bytes ≤ end → pool_at end bytes ≡ Err fault
-        → OnlyGoodBefore end bytes (place_of fault) }
+        → OnlyGoodBefore end bytes (fault_place fault) }
 {}
 
 /// A wrong index in a pool is the count's, or the first that leads elsewhere: the constants before it lead where they may.

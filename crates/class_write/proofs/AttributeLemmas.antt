@@ -35,16 +35,16 @@ fair pool place = record {
 }
 
 pub place_parts : (pool : Pool) (holder : Holder) (d : List ℕ) (bare : Bool) (list : List Attribute) (number : ℕ) (a : Attribute) → misfits.has_place pool holder d bare list number a ≡ true
-    → (misfits.may_stand pool holder d bare (out-Attribute a) ≡ true) × (misfits.is_second pool (attribute_place holder d) list number a ≡ false)
+    → (misfits.may_stand pool holder d bare (out-Attribute a) ≡ true) × (misfits.is_second_of_name pool (attribute_place holder d) list number a ≡ false)
 unfolding misfits.has_place
 place_parts pool holder d bare list number a e =
-    let p = and_parts (misfits.may_stand pool holder d bare (out-Attribute a)) (not (misfits.is_second pool (attribute_place holder d) list number a)) e in
-    (p.0, not_true (misfits.is_second pool (attribute_place holder d) list number a) p.1)
+    let p = and_parts (misfits.may_stand pool holder d bare (out-Attribute a)) (not (misfits.is_second_of_name pool (attribute_place holder d) list number a)) e in
+    (p.0, not_true (misfits.is_second_of_name pool (attribute_place holder d) list number a) p.1)
 
 pub place_from : (pool : Pool) (holder : Holder) (d : List ℕ) (bare : Bool) (list : List Attribute) (number : ℕ) (a : Attribute)
-    → misfits.may_stand pool holder d bare (out-Attribute a) ≡ true → misfits.is_second pool (attribute_place holder d) list number a ≡ false → misfits.has_place pool holder d bare list number a ≡ true
+    → misfits.may_stand pool holder d bare (out-Attribute a) ≡ true → misfits.is_second_of_name pool (attribute_place holder d) list number a ≡ false → misfits.has_place pool holder d bare list number a ≡ true
 unfolding misfits.has_place
-place_from pool holder d bare list number a may second = and_from (misfits.may_stand pool holder d bare (out-Attribute a)) (not (misfits.is_second pool (attribute_place holder d) list number a)) may (ap not second)
+place_from pool holder d bare list number a may second = and_from (misfits.may_stand pool holder d bare (out-Attribute a)) (not (misfits.is_second_of_name pool (attribute_place holder d) list number a)) may (ap not second)
 
 -- no two attributes without a fault have one known name
 names_once : (pool : Pool) (holder : Holder) (d : List ℕ) (bare : Bool) (misfit : ℕ → Attribute → Option WriteFault) (part : Part) (list : List Attribute)

@@ -135,7 +135,7 @@ plain_none pool d id (Attribute-F.Bootstrap name entries) is = bootstraps_none p
 plain_none pool d id (Attribute-F.Annotations name list) is = annotations_none pool id list is
 plain_none pool d id (Attribute-F.Other name bytes) is = refl
 
-code_attribute_none : (pool : Pool) (method : ℕ) (list : List Attribute) (n : ℕ) (a : Attribute) → IsCodeAttribute pool a → misfits.is_second pool in_code list n a ≡ false
+code_attribute_none : (pool : Pool) (method : ℕ) (list : List Attribute) (n : ℕ) (a : Attribute) → IsCodeAttribute pool a → misfits.is_second_of_name pool in_code list n a ≡ false
     → misfits.code_attribute_of pool (holders.Code method) list n a ≡ None
 unfolding misfits.code_attribute_of
 code_attribute_none pool method list n a is second =
@@ -176,7 +176,7 @@ record MayStand (pool : Pool) (place : Place) (bare : Bool) (a : Attribute) : Ty
   allowed : not (bare && is_code_layer (out-Attribute a)) ≡ true
 
 attribute_none : (pool : Pool) (holder : Holder) (d : List ℕ) (bare : Bool) (list : List Attribute) (n : ℕ) (a : Attribute) → MayStand pool (attribute_place holder d) bare a
-    → misfits.is_second pool (attribute_place holder d) list n a ≡ false → misfits.attribute_of pool holder d bare list n a ≡ None
+    → misfits.is_second_of_name pool (attribute_place holder d) list n a ≡ false → misfits.attribute_of pool holder d bare list n a ≡ None
 unfolding misfits.attribute_of
 attribute_none pool holder d bare list n a is second =
     let parts = form_parts (IsCodeAttributes pool) pool holder d (out-Attribute a) is.shaped.form in

@@ -6,7 +6,7 @@ use Rattle.class_model.specs.declared.stack_map.StackFrame.{StackFrame}
 use Rattle.class_model.specs.declared.stack_map.FrameType.{FrameType}
 use Rattle.class_model.specs.Attributes.{IsFrameType, has_layout}
 use Rattle.class_model.specs.Spelling as spelling
-use Rattle.class_write.specs.FrameText.{head, lists}
+use Rattle.class_write.specs.FrameText.{head_text, lists}
 use Rattle.class_write.specs.Misfits as misfits
 
 pub type_shaped : (pool : Pool) (t : FrameType) → misfits.is_frame_type pool t ≡ true → IsFrameType pool t
@@ -69,7 +69,7 @@ small f is other = elim (cases_Bool (ltb f.tag 64)) [
 ]
 
 -- the two halves of a frame are its text
-pub whole : (f : StackFrame) → has_layout f ≡ true → head f ++ lists f ≡ spelling.frame f
+pub whole : (f : StackFrame) → has_layout f ≡ true → head_text f ++ lists f ≡ spelling.frame f
 unfolding spelling.frame
 whole f is = elim (cases_Bool (eqb f.tag 255)) [
   | inl y ↦ (let e : f.tag ≡ 255 = eqb-true f.tag 255 y in

@@ -5,8 +5,8 @@ use Rattle.class_model.specs.declared.stack_map.StackFrame.{StackFrame}
 use Rattle.class_model.specs.Spelling as spelling
 
 -- the tag, and the delta where it doesn't stand in the tag
-abbrev pub head : StackFrame → List ℕ
-head f = if nat_lt f.tag 128 then spelling.u1 f.tag else spelling.u1 f.tag ++ spelling.u2 f.delta
+abbrev pub head_text : StackFrame → List ℕ
+head_text f = if nat_lt f.tag 128 then spelling.u1 f.tag else spelling.u1 f.tag ++ spelling.u2 f.delta
 
 -- the locals and the stack, with their counts in a full frame alone
 abbrev pub lists : StackFrame → List ℕ

@@ -186,14 +186,14 @@ plain pool descriptor id (Attribute-F.Annotations name list) = annotations pool 
 plain pool descriptor id (Attribute-F.Other name bytes) = None
 
 -- The name is known in the place, and an attribute of this name stands before.
-abbrev pub is_second : Pool → Place → List Attribute → ℕ → Attribute → Bool
-is_second pool place list number a =
+abbrev pub is_second_of_name : Pool → Place → List Attribute → ℕ → Attribute → Bool
+is_second_of_name pool place list number a =
     is_again (λ b. is_known place (attribute_name pool b)) (λ b c. bytes_eq (attribute_name pool b) (attribute_name pool c)) list number a
 
 -- whether the number of an attribute is a place for it among all of a holder
 unfoldable pub has_place : Pool → Holder → List ℕ → Bool → List Attribute → ℕ → Attribute → Bool
 has_place pool holder descriptor bare list number a =
-    may_stand pool holder descriptor bare (out-Attribute a) && not (is_second pool (attribute_place holder descriptor) list number a)
+    may_stand pool holder descriptor bare (out-Attribute a) && not (is_second_of_name pool (attribute_place holder descriptor) list number a)
 
 -- the length of a content fits its field
 abbrev pub length_of : AttributeId → List ℕ → Option WriteFault

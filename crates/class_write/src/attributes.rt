@@ -154,7 +154,7 @@ fn is_second(
     number: usize,
     attribute: &Attribute,
 ) -> bool
-    ensures { (descriptor : List ℕ) → misfits.is_second pool.now (attribute_place holder descriptor) list.now number attribute.now ≡ result }
+    ensures { (descriptor : List ℕ) → misfits.is_second_of_name pool.now (attribute_place holder descriptor) list.now number attribute.now ≡ result }
 {
     let name = attribute_name(pool, attribute);
     if !is_known(holder, name) {

@@ -8,7 +8,7 @@ ghost use Rattle.class_model.specs.Spelling as spelling;
 ghost use Rattle.class_write.specs.Order.{Refuses};
 ghost use Rattle.class_write.specs.Misfits as misfits;
 ghost use Rattle.class_write.specs.Misfits.{at};
-ghost use Rattle.class_write.specs.FrameText.{head, lists};
+ghost use Rattle.class_write.specs.FrameText.{head_text, lists};
 ghost use Rattle.const_pool.specs.declared.write_fault.AttributePart.TheVariants as items;
 
 use crate::item_lists::{WriteItem, write_counted, write_many};
@@ -145,7 +145,7 @@ fn has_layout(frame: &StackFrame) -> bool
 
 /// Writes the tag, and the delta where it doesn't stand in the tag.
 fn put_head(out: &mut Vec<u8>, frame: &StackFrame) -> Result<(), WriteFault>
-    ensures ok { OnOk result (out.new.items ≡ out.old.items ++ head frame.now) }
+    ensures ok { OnOk result (out.new.items ≡ out.old.items ++ head_text frame.now) }
     ensures delta { OnOk result (frame.now.delta < 2 ^ 16) }
     ensures memory { IsOkUnless result WriteFault.Memory }
 {

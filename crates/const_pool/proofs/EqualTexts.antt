@@ -9,7 +9,7 @@ use Rattle.std.proofs.lemmas.Bool.{cases_Bool}
 use Rattle.std.proofs.lemmas.Bool.Decides.{same_from_decides, Decides-eqb, nat_tests}
 use Rattle.std.proofs.lemmas.Slice.Eq.{bytes_eq-Decides}
 use Rattle.class_model.specs.declared.constant_pool.Pool.{Pool}
-use Rattle.class_text.specs.Attributes.{text_of}
+use Rattle.class_text.specs.Attributes.{text_or_empty}
 use Rattle.const_pool.specs.declared.text_numbers.TextNumbers.{TextNumbers}
 use Rattle.const_pool.specs.TextNumbers.{number_in, AreNumbersOf, Grows}
 
@@ -53,13 +53,13 @@ entered_alone old new P constant given p is c number e = elim (cases_Bool (is_eq
 -- the numbers after the text of a constant was asked for
 pub grown : (pool : Pool) (old new : TextNumbers) (constant : ℕ) → AreNumbersOf pool old
     → ((text : List ℕ) (number : ℕ) → number_in old text ≡ Some number → number_in new text ≡ Some number)
-    → ((text : List ℕ) (number : ℕ) → number_in new text ≡ Some number → (number_in old text ≡ Some number) ⊎ ((text ≡ text_of pool constant) × (number ≡ constant)))
-    → ((c number : ℕ) → get nat_cmp new.by_constant c ≡ Some number → (get nat_cmp old.by_constant c ≡ Some number) ⊎ (number_in new (text_of pool c) ≡ Some number))
+    → ((text : List ℕ) (number : ℕ) → number_in new text ≡ Some number → (number_in old text ≡ Some number) ⊎ ((text ≡ text_or_empty pool constant) × (number ≡ constant)))
+    → ((c number : ℕ) → get nat_cmp new.by_constant c ≡ Some number → (get nat_cmp old.by_constant c ≡ Some number) ⊎ (number_in new (text_or_empty pool c) ≡ Some number))
     → Grows pool old new
 grown pool old new constant are kept added entered = record {
   numbers = record {
-    texts = λ text number e. elim (added text number e) [ inl was ↦ are.texts text number was | inr one ↦ ap (text_of pool) one.1 ∙ sym one.0 ];
-    constants = λ c number e. elim (entered c number e) [ inl was ↦ kept (text_of pool c) number (are.constants c number was) | inr one ↦ one ];
+    texts = λ text number e. elim (added text number e) [ inl was ↦ are.texts text number was | inr one ↦ ap (text_or_empty pool) one.1 ∙ sym one.0 ];
+    constants = λ c number e. elim (entered c number e) [ inl was ↦ kept (text_or_empty pool c) number (are.constants c number was) | inr one ↦ one ];
   };
   kept = kept;
 }
@@ -73,7 +73,7 @@ grows_on pool first second third one two = record {
 -- Numbers are equal exactly where the texts are.
 pub number_tells : (pool : Pool) (numbers : TextNumbers) (s t : List ℕ) (m n : ℕ) → AreNumbersOf pool numbers → number_in numbers s ≡ Some m → number_in numbers t ≡ Some n → (n == m) ≡ bytes_eq s t
 number_tells pool numbers s t m n are of_s of_t =
-    let forth : n ≡ m → s ≡ t = λ e. sym (are.texts s m of_s) ∙ ap (text_of pool) (sym e) ∙ are.texts t n of_t in
+    let forth : n ≡ m → s ≡ t = λ e. sym (are.texts s m of_s) ∙ ap (text_or_empty pool) (sym e) ∙ are.texts t n of_t in
     let back : s ≡ t → n ≡ m = λ e. (let both : Some n ≡ Some m = sym of_t ∙ ap (number_in numbers) (sym e) ∙ of_s in cc) in
     let by_number = Decides-eqb n m in
     let by_text = bytes_eq-Decides s t in

@@ -5,12 +5,12 @@ use Rattle.class_model.specs.declared.constant_pool.Constant.{Constant}
 use Rattle.class_model.specs.declared.constant_pool.Constant.TheVariants.{Second}
 use Rattle.class_model.specs.Constants.{takes_two}
 use Rattle.class_text.specs.Reading.{Fault, cut_short, bad_tag, bad_text, bad_index, Reading, ◌>>=◌}
-use Rattle.class_text.specs.Pool.{constant_at, constants_at, with_first}
+use Rattle.class_text.specs.Pool.{constant_at_front, constants_at, with_first_constant}
 use Rattle.const_pool.specs.declared.pool_fault.PoolFault.{PoolFault}
 use Rattle.const_pool.specs.declared.pool_fault.PoolFault.TheVariants.{CutShort, BadTag, BadUtf8, BadIndex, Memory}
 use Rattle.const_pool.specs.Faults.{Fails, behind}
 
-regroup : (front : List Constant) (c : Constant) (read : Reading (List Constant)) → behind (front ++ c ∷ []) read ≡ behind front (read >>= with_first c)
+regroup : (front : List Constant) (c : Constant) (read : Reading (List Constant)) → behind (front ++ c ∷ []) read ≡ behind front (read >>= with_first_constant c)
 regroup front c (Ok x) = ap (λ (cs : List Constant). Ok (cs, x.1)) (simp append_assoc)
 regroup front c (Err f) = refl
 
@@ -23,7 +23,7 @@ second_read end (suc left) front bytes some =
     rw k (regroup front Second (constants_at end false left bytes))
 
 pub constant_read : (end left : ℕ) (front : List Constant) (bytes : List ℕ) (c : Constant) (after : List ℕ) (due : Bool) → 0 < left
-    → constant_at end left bytes ≡ Ok (c, after) → due ≡ takes_two c → behind (front ++ c ∷ []) (constants_at end due (left - 1) after) ≡ behind front (constants_at end false left bytes)
+    → constant_at_front end left bytes ≡ Ok (c, after) → due ≡ takes_two c → behind (front ++ c ∷ []) (constants_at end due (left - 1) after) ≡ behind front (constants_at end false left bytes)
 unfolding constants_at
 constant_read end zero front bytes c after due some is two = absurd (omega arith)
 constant_read end (suc left) front bytes c after due some is two =
@@ -31,12 +31,12 @@ constant_read end (suc left) front bytes c after due some is two =
     rw (k, is, two) (regroup front c (constants_at end (takes_two c) left after))
 
 -- a fault of a constant is one of the whole reading
-fault_is : (end left : ℕ) (front : List Constant) (bytes : List ℕ) (f : Fault) → 0 < left → constant_at end left bytes ≡ Err f → behind front (constants_at end false left bytes) ≡ Err f
+fault_is : (end left : ℕ) (front : List Constant) (bytes : List ℕ) (f : Fault) → 0 < left → constant_at_front end left bytes ≡ Err f → behind front (constants_at end false left bytes) ≡ Err f
 unfolding constants_at
 fault_is end zero front bytes f some is = absurd (omega arith)
 fault_is end (suc left) front bytes f some is = rw is refl
 
-pub fails_too : (e : PoolFault) (end left : ℕ) (front : List Constant) (bytes : List ℕ) → 0 < left → Fails e (constant_at end left bytes) → Fails e (behind front (constants_at end false left bytes))
+pub fails_too : (e : PoolFault) (end left : ℕ) (front : List Constant) (bytes : List ℕ) → 0 < left → Fails e (constant_at_front end left bytes) → Fails e (behind front (constants_at end false left bytes))
 fails_too (CutShort at) end left front bytes some is = fault_is end left front bytes (cut_short at) some is
 fails_too (BadTag at tag) end left front bytes some is = fault_is end left front bytes (bad_tag at tag) some is
 fails_too (BadUtf8 at) end left front bytes some is = fault_is end left front bytes (bad_text at) some is

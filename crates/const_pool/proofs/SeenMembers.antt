@@ -10,7 +10,7 @@ use Rattle.std.proofs.lemmas.List.Elements.{All-nil, All-cons, All-head, All-tai
 use Rattle.class_model.specs.declared.constant_pool.Pool.{Pool}
 use Rattle.class_model.specs.declared.class_file.Member.{Member}
 use Rattle.class_model.specs.Shape.{name_text, descriptor_text, are_same}
-use Rattle.class_text.specs.Attributes.{text_of}
+use Rattle.class_text.specs.Attributes.{text_or_empty}
 use Rattle.const_pool.specs.declared.text_numbers.TextNumbers.{TextNumbers}
 use Rattle.const_pool.specs.declared.member_keys.MemberKeys.{MemberKeys}
 use Rattle.const_pool.specs.TextNumbers.{number_in, AreNumbersOf, Grows}
@@ -86,14 +86,14 @@ key_is pool numbers m key q is = rw (is.name, is.descriptor) (sym (same_key key 
 -- the numbers after a name and a descriptor were asked for
 pub record IsAsked (pool : Pool) (name descriptor : ℕ) (key : Key) (old numbers : TextNumbers) : Type 0 where
   pub grows : Grows pool old numbers
-  pub name_number : number_in numbers (text_of pool name) ≡ Some key.0
-  pub descriptor_number : number_in numbers (text_of pool descriptor) ≡ Some key.1
+  pub name_number : number_in numbers (text_or_empty pool name) ≡ Some key.0
+  pub descriptor_number : number_in numbers (text_or_empty pool descriptor) ≡ Some key.1
 
 pub asked : (pool : Pool) (name descriptor : ℕ) (key : Key) (old between numbers : TextNumbers) → Grows pool old between → Grows pool between numbers
-    → number_in between (text_of pool name) ≡ Some key.0 → number_in numbers (text_of pool descriptor) ≡ Some key.1 → IsAsked pool name descriptor key old numbers
+    → number_in between (text_or_empty pool name) ≡ Some key.0 → number_in numbers (text_or_empty pool descriptor) ≡ Some key.1 → IsAsked pool name descriptor key old numbers
 asked pool name descriptor key old between numbers one two by_name by_descriptor = record {
   grows = grows_on pool old between numbers one two;
-  name_number = two.kept (text_of pool name) key.0 by_name;
+  name_number = two.kept (text_or_empty pool name) key.0 by_name;
   descriptor_number = by_descriptor;
 }
 

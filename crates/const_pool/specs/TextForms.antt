@@ -33,12 +33,12 @@ nothing = record {
   is_method_type = false;
 }
 
-abbrev pub judged : Option (List ℕ) → TextForms
-judged None = nothing
-judged (Some text) = judged_text text
+abbrev pub judged_or_nothing : Option (List ℕ) → TextForms
+judged_or_nothing None = nothing
+judged_or_nothing (Some text) = judged_text text
 
 abbrev pub judged_constant : Constant → TextForms
-judged_constant constant = judged (text_of constant)
+judged_constant constant = judged_or_nothing (text_of constant)
 
 -- The table has what the text of each constant may be.
 unfoldable pub IsTableOf : Pool → TextTable → Type 0

@@ -5,7 +5,7 @@ ghost use Rattle.std.specs.List.{flat_map};
 ghost use Rattle.class_model.specs.declared.constant_pool.Pool.{Pool};
 ghost use Rattle.class_model.specs.Constants.{takes_two, IsPool};
 ghost use Rattle.class_model.specs.Spelling as spelling;
-ghost use Rattle.class_text.specs.Pool.{of_two, handle_at, fixed_at, is_tag, is_wide, utf8_at, constant_at, constants_at, wrong_at, judged, pool_at};
+ghost use Rattle.class_text.specs.Pool.{constant_of_two, method_handle_at, fixed_at, is_tag, is_wide, utf8_at, constant_at_front, constants_at, wrong_at, judged, pool_at};
 ghost use Rattle.class_text.specs.Meanings.{IsMeantInPool};
 ghost use Rattle.const_pool.specs.TextForms.{IsTableOf};
 ghost use Rattle.const_pool.specs.Faults.{Gives, IsOf, Fails, IsOkUnlessMemory, behind};
@@ -25,7 +25,7 @@ use sqlite_items::Items;
 use std::alloc::Global;
 
 fn handle_in(bytes: &[u8]) -> Option<(Constant, &[u8])>
-    ensures { option_map (λ r. (r.0, r.1.now)) result ≡ handle_at bytes.now }
+    ensures { option_map (λ r. (r.0, r.1.now)) result ≡ method_handle_at bytes.now }
 {
     let (kind, rest) = bytes.split_first()?;
     let (reference, rest) = u2_in(rest)?;
@@ -37,7 +37,7 @@ fn handle_in(bytes: &[u8]) -> Option<(Constant, &[u8])>
 }
 
 fn name_type_in(bytes: &[u8]) -> Option<(Constant, &[u8])>
-    ensures { option_map (λ r. (r.0, r.1.now)) result ≡ of_two Constant.NameType bytes.now }
+    ensures { option_map (λ r. (r.0, r.1.now)) result ≡ constant_of_two Constant.NameType bytes.now }
 {
     let (name, rest) = u2_in(bytes)?;
     let (descriptor, rest) = u2_in(rest)?;
@@ -45,7 +45,7 @@ fn name_type_in(bytes: &[u8]) -> Option<(Constant, &[u8])>
 }
 
 fn dynamic_in(bytes: &[u8]) -> Option<(Constant, &[u8])>
-    ensures { option_map (λ r. (r.0, r.1.now)) result ≡ of_two Constant.InvokeDynamic bytes.now }
+    ensures { option_map (λ r. (r.0, r.1.now)) result ≡ constant_of_two Constant.InvokeDynamic bytes.now }
 {
     let (bootstrap, rest) = u2_in(bytes)?;
     let (name_type, rest) = u2_in(rest)?;
@@ -57,7 +57,7 @@ fn dynamic_in(bytes: &[u8]) -> Option<(Constant, &[u8])>
 }
 
 fn ref_in(tag: u8, bytes: &[u8]) -> Option<(Constant, &[u8])>
-    ensures { option_map (λ r. (r.0, r.1.now)) result ≡ of_two (Constant.Ref tag) bytes.now }
+    ensures { option_map (λ r. (r.0, r.1.now)) result ≡ constant_of_two (Constant.Ref tag) bytes.now }
 {
     let (class, rest) = u2_in(bytes)?;
     let (name_type, rest) = u2_in(rest)?;
@@ -153,14 +153,14 @@ fn is_wide(tag: u8) -> bool
 }
 
 /// The constant at the front, where so many numbers are left.
-#[tactic(auto, unfolding(class_text::specs::Pool::constant_at))]
+#[tactic(auto, unfolding(class_text::specs::Pool::constant_at_front))]
 fn constant_in(
     alloc: Global,
     end: u32,
     left: u16,
     bytes: &[u8],
 ) -> Result<(Constant, &[u8]), PoolFault>
-    ensures { Gives (λ r. (r.0, r.1.now)) result (constant_at end left bytes.now) }
+    ensures { Gives (λ r. (r.0, r.1.now)) result (constant_at_front end left bytes.now) }
 {
     let at = offset_of(end, bytes);
     let Some((tag, rest)) = bytes.split_first() else {

@@ -106,7 +106,7 @@ impl TextTable {
     ghost use Rattle.class_model.specs.ClassNames.{is_unqualified, is_method_name, is_class_name};
     ghost use Rattle.class_model.specs.Constants.{text_at, is_some_that, is_array_descriptor, is_name_with};
     ghost use Rattle.class_model.specs.Descriptors.{is_field_descriptor, is_method_descriptor, is_return_descriptor};
-    ghost use Rattle.const_pool.specs.TextForms.{IsTableOf, judged};
+    ghost use Rattle.const_pool.specs.TextForms.{IsTableOf, judged_or_nothing};
 
     /// The table of a pool.
     pub fn of(alloc: Global, pool: &Pool) -> Result<TextTable, AllocError>
@@ -123,7 +123,7 @@ impl TextTable {
     /// What the text of a number may be.
     fn forms(&self, pool: &Pool, number: u16) -> TextForms
         requires { IsTableOf pool.now self.now }
-        ensures { result ≡ judged (text_at pool.now number) }
+        ensures { result ≡ judged_or_nothing (text_at pool.now number) }
     {
         if number == 0 {
             return NOTHING;

@@ -39,7 +39,7 @@ pub struct TextNumbers<'a> {
 impl<'a> TextNumbers<'a> {
     ghost use Rattle.std.specs.Prelude.{◌≡◌, Some, IfOk};
     ghost use Rattle.class_model.specs.declared.constant_pool.Pool.{Pool};
-    ghost use Rattle.class_text.specs.Attributes.{text_of};
+    ghost use Rattle.class_text.specs.Attributes.{text_or_empty};
     ghost use Rattle.const_pool.specs.TextNumbers.{number_in, AreNumbersOf, Grows};
 
     /// The numbers of no texts.
@@ -54,7 +54,7 @@ impl<'a> TextNumbers<'a> {
 
     /// The number of a constant's text.
     pub(crate) fn number_of(&mut self, pool: &'a Pool, constant: u16) -> Result<u16, AllocError>
-        ensures number { AreNumbersOf pool.now self.old → IfOk result (λ number. number_in self.new (text_of pool.now constant) ≡ Some number) }
+        ensures number { AreNumbersOf pool.now self.old → IfOk result (λ number. number_in self.new (text_or_empty pool.now constant) ≡ Some number) }
         ensures grows { AreNumbersOf pool.now self.old → Grows pool.now self.old self.new }
     {
         if let Some(number) = self.by_constant.get(&constant) {
