@@ -13,7 +13,8 @@ use Rattle.class_verify.specs.CheckFaults.{IsCheckFaultOf}
 use Rattle.class_verify.specs.Programs.{IsVerified}
 use Rattle.class_verify.specs.Verified.{Fits}
 use Rattle.class_verify.proofs.Verifying.{only_memory}
-use Rattle.class_read.specs.declared.class_fault.ClassFault.{ClassFault}
+use Rattle.const_pool.proofs.Faults.{never}
+use Rattle.const_pool.specs.declared.class_fault.ClassFault.{ClassFault}
 use Rattle.class_read.specs.declared.limits.Limit.{Limit}
 use Rattle.class_read.specs.declared.limits.Limit.TheVariants.{Classes, Methods}
 use Rattle.class_read.specs.declared.load_fault.LoadFault.{LoadFault}
@@ -23,7 +24,6 @@ use Rattle.class_read.specs.Limits.{IsWithinLimits, IsFirstPassed}
 use Rattle.class_read.specs.Loading.{IsFirstBad, is_memory, IsSetFaultOf, HasSetFault, IsLoadFaultOf}
 use Rattle.class_read.specs.Twice.{IsTwice}
 use Rattle.class_read.proofs.ClassFileLemmas.{all_read, among, classes_once}
-use Rattle.class_read.proofs.Files.{never}
 use Rattle.class_read.proofs.TwiceLemmas.{none_external}
 
 -- a fault of classes that were read
@@ -45,7 +45,7 @@ none_bad : (files : Files) (classes : List Class) (path : List ℕ) (fault : Cla
 none_bad files classes path fault are first =
     let ok : IsOk (class_of first.bytes) = among (λ (f : File). IsOk (class_of f.1)) (class_files files) first.front first.back (path, first.bytes) first.order (all_read (class_files files) classes are) in
     let c = found first.bytes ok in
-    first.bad.not_memory (never first.bytes c.0 fault c.1 first.bad.reason)
+    first.bad.not_memory (never (class_of first.bytes) c.0 fault c.1 first.bad.reason)
 
 -- of verified classes only a want of memory is refused
 only_check : (classes : List Class) (fault : CheckFault) → IsVerified classes → IsCheckFaultOf classes fault → is_memory fault ≡ true

@@ -11,7 +11,7 @@ use Rattle.class_text.specs.Reading.{Fault}
 use Rattle.class_text.specs.Classes.{class_of}
 use Rattle.class_text.proofs.ClassLaws.{class_again}
 use Rattle.class_verify.proofs.Verifying.{around}
-use Rattle.class_read.specs.declared.class_fault.ClassFault.{ClassFault}
+use Rattle.const_pool.specs.declared.class_fault.ClassFault.{ClassFault}
 use Rattle.class_read.specs.declared.load_fault.LoadFault.{LoadFault}
 use Rattle.class_read.specs.declared.load_fault.LoadFault.TheVariants.{BadClass, DuplicateClass, TooMany, Check, Memory}
 use Rattle.class_read.specs.ClassFiles.{File, Files, is_class_path, class_files, AreClassesOf}

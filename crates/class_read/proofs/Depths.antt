@@ -4,8 +4,8 @@ use Rattle.class_model.specs.declared.constant_pool.Pool.{Pool}
 use Rattle.class_text.specs.Reading.{Fault, Reading, ◌>>=◌, place}
 use Rattle.class_text.specs.Readers.{u1_at}
 use Rattle.class_text.specs.Elements.{tagged_by, element_at}
-use Rattle.class_read.specs.declared.class_fault.ClassFault.{ClassFault}
-use Rattle.class_read.specs.Faults.{Gives}
+use Rattle.const_pool.specs.declared.class_fault.ClassFault.{ClassFault}
+use Rattle.const_pool.specs.Faults.{Gives}
 
 pub gives_as : {X A : Type 0} (view : X → A) (result : Result X ClassFault) (a b : Result A Fault) → a ≡ b → Gives view result a → Gives view result b
 gives_as view result a b same g = subst (λ (r : Result _ Fault). Gives view result r) same g

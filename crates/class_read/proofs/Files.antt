@@ -8,7 +8,7 @@ use Rattle.class_model.specs.declared.class_file.Class.{Class}
 use Rattle.class_model.specs.Constants.{IsPool}
 use Rattle.class_model.specs.Shape.{Shaped}
 use Rattle.class_model.specs.Spelling as spelling
-use Rattle.class_text.specs.Reading.{Fault, cut_short, bad_tag, bad_text, bad_index, astray, bad_magic, bad_major, bad_attribute, second_attribute, code_missing, bytes_left, Reading, place, IsBytes}
+use Rattle.class_text.specs.Reading.{Fault, bad_magic, bad_major, Reading, place, IsBytes}
 use Rattle.class_text.specs.Readers.{u2_at, u4_at}
 use Rattle.class_text.specs.Pool.{pool_at}
 use Rattle.class_text.specs.Classes.{minor_at, major_at, behind_pool_at, class_at_front, class_of}
@@ -18,10 +18,9 @@ use Rattle.class_text.proofs.Parts.{u2_reads, u4_reads}
 use Rattle.class_text.proofs.ClassLaws.{class_taken, class_again, class_once}
 use Rattle.class_text.specs.Meanings.{IsMeant}
 use Rattle.class_text.proofs.ClassTells.{class_meant}
-use Rattle.class_read.specs.declared.class_fault.ClassFault.{ClassFault}
-use Rattle.class_read.specs.declared.class_fault.ClassFault.TheVariants.{BadMagic, BadMajor, CutShort, BadTag, BadUtf8, BadIndex, BadAttribute, SecondAttribute, CodeMissing, BytesLeft, Memory}
-use Rattle.class_read.specs.Faults.{IsOf, Fails, Gives, IsOkUnlessMemory}
-use Rattle.class_read.proofs.Lists.{fails_via}
+use Rattle.const_pool.specs.declared.class_fault.ClassFault.{ClassFault}
+use Rattle.const_pool.specs.Faults.{IsOf, Fails, Gives, IsOkUnlessMemory}
+use Rattle.const_pool.proofs.Faults.{fails_via, said, never}
 
 -- what stands behind some bytes
 record IsBehind (bytes rest : List ℕ) : Type 0 where
@@ -79,21 +78,6 @@ pool_place bytes minor rest major more at are e f is =
 pub pool_there : (file : List ℕ) (at : ℕ) (p : Pool) (rest : List ℕ) → IsPool p → drop at file ≡ spelling.pool p ++ rest → pool_at (length file) (drop at file) ≡ Ok (p, rest)
 pool_there file at p rest is spelled = ap (pool_at (length file)) spelled ∙ pool_again (length file) p rest is
 
--- a reading that succeeds has no fault but a want of memory
-pub never : (bytes : List ℕ) (c : Class) (e : ClassFault) → class_of bytes ≡ Ok c → Fails e (class_of bytes) → e ≡ Memory
-never bytes c Memory ok f = refl
-never bytes c BadMagic ok f = absurd (let h = sym f ∙ ok in cc)
-never bytes c (BadMajor v) ok f = absurd (let h = sym f ∙ ok in cc)
-never bytes c (CutShort at) ok f = absurd (let h = sym f ∙ ok in cc)
-never bytes c (BadTag at tag) ok f = absurd (let h = sym f ∙ ok in cc)
-never bytes c (BadUtf8 at) ok f = absurd (let h = sym f ∙ ok in cc)
-never bytes c (BadIndex at) ok (inl f) = absurd (let h = sym f ∙ ok in cc)
-never bytes c (BadIndex at) ok (inr (numbers, f)) = absurd (let h = sym f ∙ ok in cc)
-never bytes c (BadAttribute at) ok (why, f) = absurd (let h = sym f ∙ ok in cc)
-never bytes c (SecondAttribute at) ok f = absurd (let h = sym f ∙ ok in cc)
-never bytes c (CodeMissing at) ok f = absurd (let h = sym f ∙ ok in cc)
-never bytes c (BytesLeft at) ok f = absurd (let h = sym f ∙ ok in cc)
-
 abbrev given : Class → Result Class Fault
 given c = Ok c
 
@@ -102,7 +86,7 @@ same_class c d e = cc
 
 pub read_only : (bytes : List ℕ) (result : Result Class ClassFault) → Gives (λ c. c) result (class_of bytes) → (c : Class) → Shaped c → bytes ≡ spelling.class c → IsOkUnlessMemory (λ x. x ≡ c) result
 read_only bytes (Ok x) is c s e = same_class x c (sym is ∙ ap class_of e ∙ class_again c s)
-read_only bytes (Err f) is c s e = subst (λ (g : ClassFault). IsOkUnlessMemory (λ (x : Class). x ≡ c) (Err g)) (sym (never bytes c f (ap class_of e ∙ class_again c s) is)) tt
+read_only bytes (Err f) is c s e = subst (λ (g : ClassFault). IsOkUnlessMemory (λ (x : Class). x ≡ c) (Err g)) (sym (never (class_of bytes) c f (ap class_of e ∙ class_again c s) is)) tt
 
 pub one_class : (bytes : List ℕ) (c d : Class) → Shaped c → Shaped d → bytes ≡ spelling.class c → bytes ≡ spelling.class d → c ≡ d
 one_class bytes c d s t e f = class_once c d s t (sym e ∙ f)
@@ -114,21 +98,6 @@ all_found bytes (Err e) are is = tt
 pub all_faults : (bytes : List ℕ) (result : Result Class ClassFault) → Gives (λ c. c) result (class_of bytes) → IfErr result (λ e. Fails e (class_of bytes))
 all_faults bytes (Ok c) is = tt
 all_faults bytes (Err e) is = is
-
--- What a fault of the reading says holds of the fault that was returned.
-said : (P : Fault → Type 0) (e : ClassFault) (reading : Result Class Fault) → ((f : Fault) → reading ≡ Err f → P f) → Fails e reading → IsOf P e
-said P BadMagic reading on is = on bad_magic is
-said P (BadMajor version) reading on is = on (bad_major version) is
-said P (CutShort at) reading on is = on (cut_short at) is
-said P (BadTag at tag) reading on is = on (bad_tag at tag) is
-said P (BadUtf8 at) reading on is = on (bad_text at) is
-said P (BadIndex at) reading on (inl is) = inl (on (bad_index at) is)
-said P (BadIndex at) reading on (inr (numbers, is)) = inr (numbers, on (astray at numbers) is)
-said P (BadAttribute at) reading on (why, is) = (why, on (bad_attribute at why) is)
-said P (SecondAttribute at) reading on is = on (second_attribute at) is
-said P (CodeMissing at) reading on is = on (code_missing at) is
-said P (BytesLeft at) reading on is = on (bytes_left at) is
-said P Memory reading on is = tt
 
 pub all_said : (bytes : List ℕ) (result : Result Class ClassFault) → IsBytes bytes → Gives (λ c. c) result (class_of bytes) → IfErr result (λ e. IsOf (IsMeant bytes) e)
 all_said bytes (Ok c) are is = tt

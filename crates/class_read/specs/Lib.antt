@@ -1,4 +1,3 @@
-pub mod Faults
 pub mod Stands
 pub mod Targets
 pub mod Entered

@@ -8,12 +8,12 @@ use Rattle.class_verify.specs.CheckFaults.{IsCheckFaultOf}
 use Rattle.class_verify.specs.declared.program_ok.CheckFault.{CheckFault}
 use Rattle.class_verify.specs.declared.program_ok.CheckFault.TheVariants.{Index, Verify}
 use Rattle.class_verify.specs.declared.fault.VerifyFault.TheVariants as verify_faults
-use Rattle.class_read.specs.declared.class_fault.ClassFault.{ClassFault}
-use Rattle.class_read.specs.declared.class_fault.ClassFault.TheVariants as class_faults
+use Rattle.const_pool.specs.declared.class_fault.ClassFault.{ClassFault}
+use Rattle.const_pool.specs.declared.class_fault.ClassFault.TheVariants as class_faults
 use Rattle.class_read.specs.declared.load_fault.LoadFault.{LoadFault}
 use Rattle.class_read.specs.declared.load_fault.LoadFault.TheVariants.{BadClass, DuplicateClass, TooMany, Check, Memory}
 use Rattle.class_read.specs.ClassFiles.{Files, class_files, AreClassesOf}
-use Rattle.class_read.specs.Faults.{Fails}
+use Rattle.const_pool.specs.Faults.{Fails}
 use Rattle.class_read.specs.Limits.{IsFirstPassed, IsWithinLimits}
 use Rattle.class_read.specs.Twice.{IsTwice, IsEachOnce}
 

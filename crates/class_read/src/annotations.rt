@@ -4,14 +4,13 @@ ghost use Rattle.std.specs.Prelude.{◌≡◌, ◌==◌, ◌≤◌, ◌-◌, cod
 ghost use Rattle.std.specs.List.{list_any};
 ghost use Rattle.class_text.specs.Readers.{many_at, counted_at};
 ghost use Rattle.class_text.specs.Elements.{is_constant_tag, pair_by, note_by, enum_at, tagged_by, element_at, note_at};
-ghost use Rattle.class_read.specs.Faults.{Gives};
+ghost use Rattle.const_pool.specs.Faults.{Gives};
 
-use crate::class_fault::ClassFault;
 use crate::item_lists::{ReadItem, counted_in};
 use crate::numbers::{u1_in, u2_in};
 use crate::targets::{Target, index_in};
 use class_model::{Element, Elements, GREATEST_DEPTH, Note, Notes, Pair, Pairs};
-use const_pool::{JudgedPool, offset_of};
+use const_pool::{ClassFault, JudgedPool, offset_of};
 use sqlite_items::Items;
 use std::alloc::Global;
 

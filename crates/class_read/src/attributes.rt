@@ -6,18 +6,17 @@ ghost use Rattle.class_text.specs.Reading.{Reading};
 ghost use Rattle.class_text.specs.Readers.{many_after, whole};
 ghost use Rattle.class_text.specs.Attributes.{handler_at, bootstrap_at, other_at, stack_map_at, constant_value_at, bootstraps_at, annotations_at, code_content_at, named_at, code_attribute_at, code_attributes_at, code_bytes_at, code_at, own_content_at, content_at, attribute_at, attributes_at};
 ghost use Rattle.class_model.specs.Attributes.{in_code};
-ghost use Rattle.class_read.specs.Faults.{Gives};
+ghost use Rattle.const_pool.specs.Faults.{Gives};
 ghost use Rattle.class_read.specs.Stands.{stand_of, Keeps};
 
 use crate::annotations::annotations_in;
-use crate::class_fault::ClassFault;
 use crate::frames::frames_in;
 use crate::item_lists::{ReadItem, counted_in};
 use crate::numbers::{run_in, u2_in, u4_in};
 use crate::stands::{SeenAttributes, Stand, is_known, own_name};
 use crate::targets::{IndexReader, Target, index_in};
 use class_model::{Attribute, Attributes, Bootstrap, Handler};
-use const_pool::{JudgedPool, offset_of};
+use const_pool::{ClassFault, JudgedPool, offset_of};
 use sqlite_items::Items;
 use std::alloc::Global;
 

@@ -2,25 +2,21 @@
 
 ghost use Rattle.std.specs.Prelude.{ℕ, List, ◌≡◌, ◌&&◌, ◌<◌, ◌≤◌, ◌^◌, length, drop, nat_le, Ok, Err, IfOk, IfErr};
 ghost use Rattle.class_model.specs.declared.class_file.Class.{Class};
-ghost use Rattle.class_model.specs.declared.constant_pool.Pool.{Pool};
 ghost use Rattle.class_model.specs.Shape.{Shaped};
 ghost use Rattle.class_model.specs.Spelling as spelling;
-ghost use Rattle.class_text.specs.Reading.{Reading};
 ghost use Rattle.class_text.specs.Pool.{pool_at};
 ghost use Rattle.class_text.specs.Classes.{minor_at, major_at, behind_pool_at, class_at_front, class_of};
 ghost use Rattle.class_text.specs.Meanings.{IsMeant};
-ghost use Rattle.const_pool.specs.Faults.{Fails as PoolFails};
-ghost use Rattle.class_read.specs.Faults.{Gives, IsOf, Fails, IsOkUnlessMemory};
+ghost use Rattle.const_pool.specs.Faults.{Gives, IsOf, Fails, IsOkUnlessMemory};
 
 use crate::attributes::attributes_in;
-use crate::class_fault::ClassFault;
 use crate::item_lists::counted_in;
 use crate::members::{fields_in, methods_in};
 use crate::numbers::{u2_in, u4_in};
 use crate::stands::Stand;
 use crate::targets::{IndexReader, Target, index_in};
 use class_model::{Class, MAGIC};
-use const_pool::{JudgedPool, PoolFault, offset_of, read_pool};
+use const_pool::{ClassFault, JudgedPool, offset_of, read_pool};
 use std::alloc::Global;
 
 /// The magic and the minor version.
@@ -50,31 +46,15 @@ fn major_in(end: u32, bytes: &[u8]) -> Result<(u16, &[u8]), ClassFault>
     Ok((major, rest))
 }
 
-fn of_pool(fault: PoolFault) -> ClassFault
-    ensures { (reading : Reading Pool) → PoolFails fault reading → Fails result reading }
-{
-    match fault {
-        PoolFault::CutShort(at) => ClassFault::CutShort(at),
-        PoolFault::BadTag(at, tag) => ClassFault::BadTag(at, tag),
-        PoolFault::BadUtf8(at) => ClassFault::BadUtf8(at),
-        PoolFault::BadIndex(at) => ClassFault::BadIndex(at),
-        PoolFault::Memory => ClassFault::Memory,
-    }
-}
-
 /// The pool that begins at an offset of the file.
 fn pool_in(alloc: Global, file: &[u8], at: u32) -> Result<(JudgedPool, &[u8]), ClassFault>
     requires small { length file.now < 2 ^ 32 }
     requires within { at ≤ length file.now }
     ensures { Gives (λ r. (r.0, r.1.now)) result (pool_at (length file.now) (drop at file.now)) }
 {
-    match read_pool(alloc, file, at) {
-        Ok((pool, next)) => {
-            let (_, rest) = file.split_at(next as usize);
-            Ok((pool, rest))
-        }
-        Err(fault) => Err(of_pool(fault)),
-    }
+    let (pool, next) = read_pool(alloc, file, at)?;
+    let (_, rest) = file.split_at(next as usize);
+    Ok((pool, rest))
 }
 
 /// What stands behind the pool.

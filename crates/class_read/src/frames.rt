@@ -3,14 +3,13 @@
 ghost use Rattle.std.specs.Prelude.{◌≡◌, [], ◌<◌, ◌-◌, Ok, Err};
 ghost use Rattle.class_text.specs.Readers.{counted_at};
 ghost use Rattle.class_text.specs.Frames.{typed_at, frame_type_at, with_item_at, with_locals_at, full_at, behind_delta_at, framed_at, frame_at};
-ghost use Rattle.class_read.specs.Faults.{Gives};
+ghost use Rattle.const_pool.specs.Faults.{Gives};
 
-use crate::class_fault::ClassFault;
 use crate::item_lists::{ReadItem, counted_in, many_in};
 use crate::numbers::{u1_in, u2_in};
 use crate::targets::{Target, index_in};
 use class_model::{FrameType, StackFrame, StackFrames};
-use const_pool::{JudgedPool, offset_of};
+use const_pool::{ClassFault, JudgedPool, offset_of};
 use sqlite_items::Items;
 use std::alloc::Global;
 

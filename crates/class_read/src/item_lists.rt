@@ -1,10 +1,10 @@
 //! Lists of items, each of which is read by itself.
 
 ghost use Rattle.class_text.specs.Readers.{Reader, many_at, counted_at};
-ghost use Rattle.class_read.specs.Faults.{Gives};
+ghost use Rattle.const_pool.specs.Faults.{Gives};
 
-use crate::class_fault::ClassFault;
 use crate::numbers::u2_in;
+use const_pool::ClassFault;
 use sqlite_items::Items;
 use std::alloc::Global;
 

@@ -3,10 +3,10 @@
 ghost use Rattle.std.specs.Prelude.{◌≡◌};
 ghost use Rattle.class_read.specs.declared.load_fault.LoadFault.TheVariants as load_fault;
 
-use crate::class_fault::ClassFault;
 use crate::limits::Limit;
 use class_model::Name;
 use class_verify::CheckFault;
+use const_pool::ClassFault;
 use std::alloc::{AllocError, AllocFailed};
 use thiserror::Error;
 use tree_value::{CopyFault, Path};

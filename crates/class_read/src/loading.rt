@@ -11,7 +11,6 @@ ghost use Rattle.class_read.specs.ClassFiles.{is_class_path, class_files, AreCla
 ghost use Rattle.class_read.specs.Limits.{IsWithinLimits};
 ghost use Rattle.class_read.specs.Loading.{IsBadAt, IsSetFaultOf, IsLoadFaultOf};
 
-use crate::class_fault::ClassFault;
 use crate::class_file::read_class;
 use crate::limits::passed_limit;
 use crate::load_fault::LoadFault;
@@ -19,6 +18,7 @@ use crate::names::program_of;
 use class_index::IndexFault;
 use class_model::{Class, Program, ProgramFault};
 use class_verify::{CheckFault, ProgramOk, VerifyFault};
+use const_pool::ClassFault;
 use std::alloc::Global;
 use tree_value::{Bytes, Path, Tree};
 

@@ -4,16 +4,15 @@ ghost use Rattle.std.specs.Prelude.{◌≡◌, ◌++◌, ◌∷◌, [], IfOk};
 ghost use Rattle.const_pool.specs.SeenMembers.{HasSeen};
 ghost use Rattle.class_text.specs.Readers.{index_at, many_after, counted_after};
 ghost use Rattle.class_text.specs.Classes.{leads_to_field_type, leads_to_method_type, field_at, method_at};
-ghost use Rattle.class_read.specs.Faults.{Gives};
+ghost use Rattle.const_pool.specs.Faults.{Gives};
 ghost use Rattle.class_read.specs.Entered.{IsEntered};
 
 use crate::attributes::attributes_in;
-use crate::class_fault::ClassFault;
 use crate::numbers::u2_in;
 use crate::stands::Stand;
 use crate::targets::{Target, index_in};
 use class_model::{Member, Members, has_code, is_bare, is_static};
-use const_pool::{JudgedPool, MemberKeys, items_with_room, offset_of};
+use const_pool::{ClassFault, JudgedPool, MemberKeys, items_with_room, offset_of};
 use std::alloc::{AllocError, Global};
 
 /// The members before one, and their names and descriptors.

@@ -2,10 +2,9 @@
 
 ghost use Rattle.std.specs.Prelude.{◌≡◌, Ok, Err};
 ghost use Rattle.class_text.specs.Readers.{u1_at, u2_at, u4_at, run_at};
-ghost use Rattle.class_read.specs.Faults.{Gives};
+ghost use Rattle.const_pool.specs.Faults.{Gives};
 
-use crate::class_fault::ClassFault;
-use const_pool::offset_of;
+use const_pool::{ClassFault, offset_of};
 
 #[tactic(auto, unfolding(class_text::specs::Readers::u1_at))]
 pub(crate) fn u1_in(end: u32, bytes: &[u8]) -> Result<(u8, &[u8]), ClassFault>

@@ -5,13 +5,12 @@ ghost use Rattle.class_model.specs.Constants.{class_at};
 ghost use Rattle.class_text.specs.Readers.{index_at};
 ghost use Rattle.class_text.specs.Attributes.{leads_to_caught};
 ghost use Rattle.class_text.specs.Classes.{leads_to_super};
-ghost use Rattle.class_read.specs.Faults.{Gives};
+ghost use Rattle.const_pool.specs.Faults.{Gives};
 ghost use Rattle.class_read.specs.Targets.{leads_to};
 
-use crate::class_fault::ClassFault;
 use crate::item_lists::ReadItem;
 use crate::numbers::u2_in;
-use const_pool::{JudgedPool, offset_of};
+use const_pool::{ClassFault, JudgedPool, offset_of};
 
 /// What an index leads to.
 #[derive(Clone, Copy)]

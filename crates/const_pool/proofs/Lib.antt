@@ -1,3 +1,4 @@
+pub mod Faults
 pub mod Loop
 pub mod Places
 pub mod Written

@@ -1,5 +1,5 @@
 -- Where constants stand, and what is left behind a pool.
-use Rattle.std.proofs.Common.{◌≡◌, ℕ, ◌-◌, ◌+◌, ◌≤◌, ◌<◌, ◌^◌, Bool, true, false, List, ◌∷◌, ◌++◌, length, take, drop, get_or, flat_map, Some, None, Ok, Err, refl, sym, ap, subst, ◌∙◌, append_assoc, arith, add-one, drop-cons, eq-eqb}
+use Rattle.std.proofs.Common.{◌≡◌, ℕ, ◌-◌, ◌+◌, ◌≤◌, ◌<◌, ◌^◌, Bool, true, false, List, ◌∷◌, ◌++◌, length, take, drop, get_or, flat_map, Some, None, Ok, refl, sym, ap, subst, ◌∙◌, append_assoc, arith, add-one, drop-cons, eq-eqb}
 use Rattle.std.specs.Int.{w16, to_be_bytes}
 use Rattle.std.proofs.Math.ListN.{drop_of_length-le}
 use Rattle.std.proofs.lemmas.Bool.{ne_eqb}
@@ -9,13 +9,10 @@ use Rattle.class_model.specs.declared.constant_pool.Constant.TheVariants.{Ref}
 use Rattle.class_model.specs.declared.constant_pool.Pool.{Pool}
 use Rattle.class_model.specs.Constants.{IsPool, constant_at as number, is_some_that, is_class_constant, is_for_field, is_for_method, has_targets}
 use Rattle.class_model.specs.Spelling.{constant, pool}
-use Rattle.class_text.specs.Reading.{Fault, cut_short, bad_tag, bad_text, bad_index, Reading, place, number_at, IsBytes}
+use Rattle.class_text.specs.Reading.{Reading, place, number_at, IsBytes}
 use Rattle.class_text.specs.Pool.{constants_at, wrong_at, pool_at}
 use Rattle.class_text.proofs.Numbers.{IsBytes-drop, ok_is, wide16, number_takes}
 use Rattle.class_text.proofs.Pools.{constants_taken, pool_taken, pool_again}
-use Rattle.const_pool.specs.declared.pool_fault.PoolFault.{PoolFault}
-use Rattle.const_pool.specs.declared.pool_fault.PoolFault.TheVariants.{CutShort, BadTag, BadUtf8, BadIndex, Memory}
-use Rattle.const_pool.specs.Faults.{IsOf, Fails}
 
 pub member_of_field : (p : Pool) (tag class name_type : ℕ) (r : Bool) → tag ≡ 9 → true ≡ is_some_that is_class_constant (number p class)
     → r ≡ is_some_that (is_for_field p) (number p name_type) → r ≡ has_targets p (Ref tag class name_type)
@@ -69,14 +66,6 @@ behind_pool at bytes text after e =
     let whole : bytes ≡ (take at bytes ++ text) ++ after = sym (take-append-drop at bytes) ∙ ap (λ (l : List ℕ). take at bytes ++ l) e ∙ sym (append_assoc (take at bytes) text after) in
     subst (λ (l : List ℕ). drop (length l - length after) l ≡ after) (sym whole) (suffix (take at bytes ++ text) after)
 
--- a reading that succeeds has no fault but a want of memory
-pub never : (reading : Reading Pool) (x : Pool × List ℕ) (e : PoolFault) → reading ≡ Ok x → Fails e reading → e ≡ Memory
-never reading x (CutShort at) ok f = absurd (let h : Err (cut_short at) ≡ Ok x = sym f ∙ ok in cc)
-never reading x (BadTag at tag) ok f = absurd (let h : Err (bad_tag at tag) ≡ Ok x = sym f ∙ ok in cc)
-never reading x (BadUtf8 at) ok f = absurd (let h : Err (bad_text at) ≡ Ok x = sym f ∙ ok in cc)
-never reading x (BadIndex at) ok f = absurd (let h : Err (bad_index at) ≡ Ok x = sym f ∙ ok in cc)
-never reading x Memory ok f = refl
-
 -- one reading has one value
 pub same_value : (a b : Pool × List ℕ) (reading : Reading Pool) → reading ≡ Ok a → reading ≡ Ok b → a ≡ b
 same_value a b reading p q = ok_is a b (sym p ∙ q)
@@ -100,11 +89,3 @@ read_only bytes at p after next q rest are e is right spelled =
     let back : drop next bytes ≡ after = rw is (behind_pool at bytes (pool p) after t.1.parts) in
     let same = same_value (p, after) (q, rest) (pool_at (length bytes) (drop at bytes)) e (again_there bytes at q rest right spelled) in
     (ap (λ (x : Pool × List ℕ). x.0) same, back ∙ ap (λ (x : Pool × List ℕ). x.1) same)
-
--- What a fault of the reading says holds of the fault that was returned.
-pub said : (P : Fault → Type 0) (e : PoolFault) (reading : Reading Pool) → ((f : Fault) → reading ≡ Err f → P f) → Fails e reading → IsOf P e
-said P (CutShort at) reading on is = on (cut_short at) is
-said P (BadTag at tag) reading on is = on (bad_tag at tag) is
-said P (BadUtf8 at) reading on is = on (bad_text at) is
-said P (BadIndex at) reading on is = on (bad_index at) is
-said P Memory reading on is = tt

@@ -3,10 +3,10 @@
 //! contracts cite. The reader and the writer of class files use `read_pool` and `write_pool`.
 #![tactic(auto)]
 
+mod class_fault;
 mod judged_pool;
 mod member_keys;
 mod numbers;
-mod pool_fault;
 mod pool_reader;
 mod pool_writer;
 mod room;
@@ -16,10 +16,10 @@ mod text_forms;
 mod text_numbers;
 mod write_fault;
 
+pub use class_fault::ClassFault;
 pub use judged_pool::JudgedPool;
 pub use member_keys::MemberKeys;
 pub use numbers::{offset_of, u2_in, u4_in, u8_in};
-pub use pool_fault::PoolFault;
 pub use pool_reader::read_pool;
 pub use pool_writer::{put_u2, put_u4, write_pool};
 pub use room::items_with_room;

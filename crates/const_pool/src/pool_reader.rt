@@ -8,11 +8,11 @@ ghost use Rattle.class_model.specs.Spelling as spelling;
 ghost use Rattle.class_text.specs.Pool.{constant_of_two, method_handle_at, fixed_at, is_tag, is_wide, utf8_at, constant_at_front, constants_at, wrong_at, judged, pool_at};
 ghost use Rattle.class_text.specs.Meanings.{IsMeantInPool};
 ghost use Rattle.const_pool.specs.TextForms.{IsTableOf};
-ghost use Rattle.const_pool.specs.Faults.{Gives, IsOf, Fails, IsOkUnlessMemory, behind};
+ghost use Rattle.const_pool.specs.Faults.{Gives, IsOf, Fails, IsOkUnlessMemory, with_front};
 
+use crate::class_fault::ClassFault;
 use crate::judged_pool::JudgedPool;
 use crate::numbers::{offset_of, u2_in, u4_in, u8_in};
-use crate::pool_fault::PoolFault;
 use crate::room::items_with_room;
 use crate::tags::{
     CLASS_TAG, DOUBLE_TAG, FLOAT_TAG, INTEGER_TAG, INVOKE_DYNAMIC_TAG, LONG_TAG, METHOD_HANDLE_TAG,
@@ -116,19 +116,19 @@ fn fixed_in(tag: u8, bytes: &[u8]) -> Option<(Constant, &[u8])>
 
 /// A text behind its length, of the constant at a place.
 #[tactic(auto, unfolding(class_text::specs::Pool::utf8_at))]
-fn utf8_in(alloc: Global, at: u32, bytes: &[u8]) -> Result<(Constant, &[u8]), PoolFault>
+fn utf8_in(alloc: Global, at: u32, bytes: &[u8]) -> Result<(Constant, &[u8]), ClassFault>
     ensures { Gives (λ r. (r.0, r.1.now)) result (utf8_at at bytes.now) }
 {
     let Some((len, rest)) = u2_in(bytes) else {
-        return Err(PoolFault::CutShort(at));
+        return Err(ClassFault::CutShort(at));
     };
     let len = usize::from(len);
     if rest.len() < len {
-        return Err(PoolFault::CutShort(at));
+        return Err(ClassFault::CutShort(at));
     }
     let (text, rest) = rest.split_at(len);
     if !is_modified_utf8(text) {
-        return Err(PoolFault::BadUtf8(at));
+        return Err(ClassFault::BadUtf8(at));
     }
     let text = Items::from_slice(alloc, text)?;
     Ok((Constant::Utf8(text), rest))
@@ -159,25 +159,25 @@ fn constant_in(
     end: u32,
     left: u16,
     bytes: &[u8],
-) -> Result<(Constant, &[u8]), PoolFault>
+) -> Result<(Constant, &[u8]), ClassFault>
     ensures { Gives (λ r. (r.0, r.1.now)) result (constant_at_front end left bytes.now) }
 {
     let at = offset_of(end, bytes);
     let Some((tag, rest)) = bytes.split_first() else {
-        return Err(PoolFault::CutShort(at));
+        return Err(ClassFault::CutShort(at));
     };
     if !is_tag(*tag) {
-        return Err(PoolFault::BadTag(at, *tag));
+        return Err(ClassFault::BadTag(at, *tag));
     }
     if is_wide(*tag) && left < 2 {
-        return Err(PoolFault::BadTag(at, *tag));
+        return Err(ClassFault::BadTag(at, *tag));
     }
     if *tag == UTF8_TAG {
         return utf8_in(alloc, at, rest);
     }
     match fixed_in(*tag, rest) {
         Some(found) => Ok(found),
-        None => Err(PoolFault::CutShort(at)),
+        None => Err(ClassFault::CutShort(at)),
     }
 }
 
@@ -200,10 +200,10 @@ fn step<'a>(
     due: bool,
     constants: &mut Constants,
     bytes: &'a [u8],
-) -> Result<(bool, &'a [u8]), PoolFault>
+) -> Result<(bool, &'a [u8]), ClassFault>
     requires { 0 < left }
-    ensures step { IfOk result (λ r. behind constants.new (constants_at end r.0 (left - 1) r.1.now) ≡ behind constants.old (constants_at end due left bytes.now)) }
-    ensures fault { IfErr result (λ e. Fails e (behind constants.old (constants_at end due left bytes.now))) }
+    ensures step { IfOk result (λ r. with_front constants.new (constants_at end r.0 (left - 1) r.1.now) ≡ with_front constants.old (constants_at end due left bytes.now)) }
+    ensures fault { IfErr result (λ e. Fails e (with_front constants.old (constants_at end due left bytes.now))) }
 {
     if due {
         constants.push(Constant::Second)?;
@@ -225,7 +225,7 @@ fn constants_in(
     end: u32,
     numbers: u16,
     bytes: &[u8],
-) -> Result<(Constants, &[u8]), PoolFault>
+) -> Result<(Constants, &[u8]), ClassFault>
     ensures { Gives (λ r. (r.0, r.1.now)) result (constants_at end false numbers bytes.now) }
 {
     let mut constants = items_with_room(alloc, numbers, bytes.len(), 3)?;
@@ -283,29 +283,34 @@ fn wrong_in(pool: &Pool, texts: &TextTable, at: u32) -> Option<u32>
 }
 
 /// The pool, unless one of its targets is wrong.
-fn judge(alloc: Global, at: u32, pool: Pool, after: &[u8]) -> Result<(JudgedPool, &[u8]), PoolFault>
+fn judge(
+    alloc: Global,
+    at: u32,
+    pool: Pool,
+    after: &[u8],
+) -> Result<(JudgedPool, &[u8]), ClassFault>
     requires { at + length (flat_map spelling.constant pool.constants) < 2 ^ 32 }
     ensures { Gives (λ r. (r.0, r.1.now)) result (judged at (pool.constants, after.entry.now)) }
 {
     let texts = TextTable::of(alloc, &pool)?;
     match wrong_in(&pool, &texts, at) {
-        Some(place) => Err(PoolFault::BadIndex(place)),
+        Some(place) => Err(ClassFault::BadIndex(place)),
         None => Ok((JudgedPool::of(pool, texts), after)),
     }
 }
 
 /// The pool at the front of bytes that go on to the end of the file.
 #[tactic(auto, unfolding(class_text::specs::Pool::pool_at))]
-fn pool_in(alloc: Global, end: u32, bytes: &[u8]) -> Result<(JudgedPool, &[u8]), PoolFault>
+fn pool_in(alloc: Global, end: u32, bytes: &[u8]) -> Result<(JudgedPool, &[u8]), ClassFault>
     requires { length bytes.now ≤ end }
     ensures { Gives (λ r. (r.0, r.1.now)) result (pool_at end bytes.now) }
 {
     let at = offset_of(end, bytes);
     let Some((count, rest)) = u2_in(bytes) else {
-        return Err(PoolFault::CutShort(at));
+        return Err(ClassFault::CutShort(at));
     };
     if count == 0 {
-        return Err(PoolFault::BadIndex(at));
+        return Err(ClassFault::BadIndex(at));
     }
     match constants_in(alloc, end, count - 1, rest) {
         Ok((constants, after)) => judge(alloc, offset_of(end, rest), Pool { constants }, after),
@@ -315,7 +320,7 @@ fn pool_in(alloc: Global, end: u32, bytes: &[u8]) -> Result<(JudgedPool, &[u8]),
 
 /// Reads the pool that begins at an offset of a file, its count first, and gives the offset after it. The refusal is
 /// the first bad place (JVMS 4.4): cuts, tags and texts in file order, and then the first constant with a wrong target.
-pub fn read_pool(alloc: Global, bytes: &[u8], at: u32) -> Result<(JudgedPool, u32), PoolFault>
+pub fn read_pool(alloc: Global, bytes: &[u8], at: u32) -> Result<(JudgedPool, u32), ClassFault>
     requires small { length bytes.now < 2 ^ 32 }
     requires within { at ≤ length bytes.now }
     // What is read is a pool, and is spelled there.

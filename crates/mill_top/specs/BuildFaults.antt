@@ -4,8 +4,8 @@ use Rattle.std.specs.Fmt.{decimal}
 use Rattle.class_index.specs.declared.fault.IndexFault.{IndexFault}
 use Rattle.class_index.specs.declared.fault.IndexFault.TheVariants as index
 use Rattle.class_model.specs.declared.identifiers.MethodId.{MethodId}
-use Rattle.class_read.specs.declared.class_fault.ClassFault.{ClassFault}
-use Rattle.class_read.specs.declared.class_fault.ClassFault.TheVariants as class
+use Rattle.const_pool.specs.declared.class_fault.ClassFault.{ClassFault}
+use Rattle.const_pool.specs.declared.class_fault.ClassFault.TheVariants as class
 use Rattle.class_verify.specs.declared.fault.VerifyFault.{VerifyFault}
 use Rattle.class_verify.specs.declared.fault.VerifyFault.TheVariants as verify
 use Rattle.class_verify.specs.declared.program_ok.CheckFault.{CheckFault}

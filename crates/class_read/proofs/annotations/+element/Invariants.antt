@@ -1,7 +1,7 @@
 use Rattle.std.proofs.Common.{◌≡◌, ◌-◌, ◌+◌, ◌*◌}
 use Rattle.class_text.specs.Readers.{many_at, many_after}
 use Rattle.class_text.specs.Elements.{pair_by, element_at}
-use Rattle.class_read.specs.Faults.{behind}
+use Rattle.const_pool.specs.Faults.{with_front}
 use Rattle.class_read.proofs.annotations.+element.Given as goal
 
 -- The depth falls from a value to those within it; beside it, the place in the chain of calls.
@@ -31,8 +31,8 @@ decreases-element_in l = 8 * l.depth
 
 abbrev pub invariant-elements_in-loop-i : goal.invariant-elements_in-loop-i
 invariant-elements_in-loop-i l =
-    behind l.items (many_after (λ before. element_at l.at l.pool l.depth) l.items (l.count - l.i) l.end l.rest) ≡ many_at (element_at l.at l.pool l.depth) l.count l.end l.bytes
+    with_front l.items (many_after (λ before. element_at l.at l.pool l.depth) l.items (l.count - l.i) l.end l.rest) ≡ many_at (element_at l.at l.pool l.depth) l.count l.end l.bytes
 
 abbrev pub invariant-pairs_in-loop-i : goal.invariant-pairs_in-loop-i
 invariant-pairs_in-loop-i l =
-    behind l.items (many_after (λ before. pair_by (element_at l.at l.pool l.depth) l.pool) l.items (l.count - l.i) l.end l.rest) ≡ many_at (pair_by (element_at l.at l.pool l.depth) l.pool) l.count l.end l.bytes
+    with_front l.items (many_after (λ before. pair_by (element_at l.at l.pool l.depth) l.pool) l.items (l.count - l.i) l.end l.rest) ≡ many_at (pair_by (element_at l.at l.pool l.depth) l.pool) l.count l.end l.bytes

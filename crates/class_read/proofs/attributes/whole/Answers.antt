@@ -1,6 +1,6 @@
 use Rattle.std.proofs.Common.{◌≡◌, sym, ◌∙◌, subst}
-use Rattle.class_read.specs.Faults.{Fails}
-use Rattle.class_read.specs.declared.class_fault.ClassFault.{ClassFault}
+use Rattle.const_pool.specs.Faults.{Fails}
+use Rattle.const_pool.specs.declared.class_fault.ClassFault.{ClassFault}
 use Rattle.class_read.proofs.Contents.{not_all, cut_off}
 use Rattle.class_read.proofs.attributes.whole.Goals as goal
 

@@ -2,10 +2,10 @@ use Rattle.std.proofs.Common.{◌≡◌, ◌-◌, []}
 use Rattle.const_pool.specs.SeenMembers.{HasSeen}
 use Rattle.class_text.specs.Readers.{many_after}
 use Rattle.class_text.specs.Classes.{method_at}
-use Rattle.class_read.specs.Faults.{behind}
+use Rattle.const_pool.specs.Faults.{with_front}
 use Rattle.class_read.proofs.members.some_methods_in.Given as goal
 
 abbrev pub invariant-loop-i : goal.invariant-loop-i
 invariant-loop-i l =
-    (behind l.before.list (many_after (method_at l.pool) l.before.list (l.count - l.i) l.end l.rest) ≡ many_after (method_at l.pool) [] l.count l.end l.bytes)
+    (with_front l.before.list (many_after (method_at l.pool) l.before.list (l.count - l.i) l.end l.rest) ≡ many_after (method_at l.pool) [] l.count l.end l.bytes)
     × HasSeen l.pool l.before.list l.before.keys

@@ -4,7 +4,8 @@ use Rattle.class_text.specs.Pool.{pool_at}
 use Rattle.class_text.specs.Meanings.{IsMeantInPool}
 use Rattle.class_text.proofs.PoolTells.{pool_meant}
 use Rattle.const_pool.specs.Faults.{Fails}
-use Rattle.const_pool.proofs.Places.{read_found, read_only, again_there, never, said}
+use Rattle.const_pool.proofs.Faults.{never, said}
+use Rattle.const_pool.proofs.Places.{read_found, read_only, again_there}
 use Rattle.const_pool.proofs.pool_reader.read_pool.Goals as goal
 
 pub returns-in-Ok-clause-found : goal.returns-in-Ok-clause-found

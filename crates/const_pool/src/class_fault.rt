@@ -1,12 +1,12 @@
-//! Why bytes are no class file.
+//! Why bytes are no class file, or no pool.
 
 ghost use Rattle.std.specs.Prelude.{◌≡◌};
-ghost use Rattle.class_read.specs.declared.class_fault.ClassFault.TheVariants as class_fault;
+ghost use Rattle.const_pool.specs.declared.class_fault.ClassFault.TheVariants as class_fault;
 
 use std::alloc::{AllocError, AllocFailed};
 use thiserror::Error;
 
-/// The first bad place of a class file, an offset in it.
+/// The first bad place of a class file, an offset in it. A pool that is read alone has those of its constants.
 #[derive(Clone, Copy, Debug, PartialEq, Eq, Error)]
 pub enum ClassFault {
     /// The file doesn't begin with `CAFEBABE`.
