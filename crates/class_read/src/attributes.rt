@@ -16,6 +16,7 @@ use crate::numbers::{run_in, u2_in, u4_in};
 use crate::stands::{SeenAttributes, Stand, is_known, own_name};
 use crate::targets::{IndexReader, Target, index_in};
 use class_model::{Attribute, Attributes, Bootstrap, Handler};
+use class_text::{CODE_NAME, MOST_CODE, STACK_MAP_TABLE_NAME};
 use const_pool::{ClassFault, JudgedPool, offset_of};
 use sqlite_items::Items;
 use std::alloc::Global;
@@ -191,7 +192,7 @@ fn code_content_in<'a>(
 ) -> Result<(Attribute, &'a [u8]), ClassFault>
     ensures { Gives (λ r. (r.0, r.1.now)) result (code_content_at pool.now name at end bytes.now) }
 {
-    if is_named(pool.as_pool().text_or_empty(name), b"StackMapTable") {
+    if is_named(pool.as_pool().text_or_empty(name), STACK_MAP_TABLE_NAME) {
         return stack_map_in(alloc, pool, name, end, bytes);
     }
     other_in(alloc, name, end, bytes)
@@ -237,7 +238,7 @@ fn named_in<'a>(
     if !found.is_first(pool, stand, text) {
         return Err(ClassFault::SecondAttribute(offset_of(end, bytes)));
     }
-    if barred && is_named(text, b"Code") {
+    if barred && is_named(text, CODE_NAME) {
         return Err(ClassFault::BadAttribute(offset_of(end, bytes)));
     }
     Ok((name, rest))
@@ -308,7 +309,7 @@ fn code_bytes_in(at: u32, end: u32, bytes: &[u8]) -> Result<(&[u8], &[u8]), Clas
     if len == 0 {
         return Err(ClassFault::BadAttribute(at));
     }
-    if len > 65535 {
+    if len > MOST_CODE {
         return Err(ClassFault::BadAttribute(at));
     }
     run_in(end, len as usize, rest)

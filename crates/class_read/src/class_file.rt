@@ -16,6 +16,7 @@ use crate::numbers::{u2_in, u4_in};
 use crate::stands::Stand;
 use crate::targets::{IndexReader, Target, index_in};
 use class_model::{Class, MAGIC};
+use class_text::{NEWEST_MAJOR, OLDEST_MAJOR};
 use const_pool::{ClassFault, JudgedPool, offset_of, read_pool};
 use std::alloc::Global;
 
@@ -37,10 +38,10 @@ fn major_in(end: u32, bytes: &[u8]) -> Result<(u16, &[u8]), ClassFault>
     ensures { Gives (λ r. (r.0, r.1.now)) result (major_at end bytes.now) }
 {
     let (major, rest) = u2_in(end, bytes)?;
-    if major < 52 {
+    if major < OLDEST_MAJOR {
         return Err(ClassFault::BadMajor(major));
     }
-    if major > 65 {
+    if major > NEWEST_MAJOR {
         return Err(ClassFault::BadMajor(major));
     }
     Ok((major, rest))

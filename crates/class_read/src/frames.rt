@@ -9,27 +9,13 @@ use crate::item_lists::{ReadItem, counted_in, many_in};
 use crate::numbers::{u1_in, u2_in};
 use crate::targets::{Target, index_in};
 use class_model::{FrameType, StackFrame, StackFrames};
+use class_text::{
+    APPEND_TAG, FULL_TAG, OBJECT_TAG, RESERVED_TAG, SAME_EXTENDED_TAG, SAME_LOCALS_1_EXTENDED_TAG,
+    SAME_LOCALS_1_TAG, UNINITIALIZED_TAG,
+};
 use const_pool::{ClassFault, JudgedPool, offset_of};
 use sqlite_items::Items;
 use std::alloc::Global;
-
-/// The tags of verification types that have an index or an offset behind them; those below have nothing.
-const OBJECT_TAG: u8 = 7;
-
-const UNINITIALIZED_TAG: u8 = 8;
-
-/// The lowest tag of each form of frame; a frame of a lower tag is the same as the one before.
-const SAME_LOCALS_1_TAG: u8 = 64;
-
-const RESERVED_TAG: u8 = 128;
-
-const SAME_LOCALS_1_EXTENDED_TAG: u8 = 247;
-
-const SAME_EXTENDED_TAG: u8 = 251;
-
-const APPEND_TAG: u8 = 252;
-
-const FULL_TAG: u8 = 255;
 
 /// What stands behind the tag of a type, which stands at a place.
 #[tactic(auto, unfolding(class_text::specs::Frames::typed_at))]

@@ -6,6 +6,10 @@ ghost use Rattle.class_text.specs.Attributes.{is_first, own_name};
 ghost use Rattle.class_read.specs.Stands.{stand_of, Keeps};
 
 use class_model::{Attribute, Attributes};
+use class_text::{
+    BOOTSTRAP_METHODS_NAME, CODE_NAME, CONSTANT_VALUE_NAME, STACK_MAP_TABLE_NAME,
+    VISIBLE_ANNOTATIONS_NAME,
+};
 use const_pool::{JudgedPool, items_with_room};
 use std::alloc::{AllocError, Global};
 
@@ -23,17 +27,17 @@ pub(crate) fn own_name(stand: Stand<'_>) -> &'static [u8]
     ensures { result.now ≡ own_name (stand_of stand.entry) }
 {
     match stand {
-        Stand::Class => b"BootstrapMethods",
-        Stand::Field(_) => b"ConstantValue",
-        Stand::Method => b"Code",
-        Stand::Code => b"StackMapTable",
+        Stand::Class => BOOTSTRAP_METHODS_NAME,
+        Stand::Field(_) => CONSTANT_VALUE_NAME,
+        Stand::Method => CODE_NAME,
+        Stand::Code => STACK_MAP_TABLE_NAME,
     }
 }
 
 fn is_annotations(text: &[u8]) -> bool
     ensures { result ≡ bytes_eq text.now (codes "RuntimeVisibleAnnotations") }
 {
-    text == b"RuntimeVisibleAnnotations".as_slice()
+    text == VISIBLE_ANNOTATIONS_NAME
 }
 
 #[tactic(auto, unfolding(class_model::specs::Attributes::is_known))]
@@ -41,10 +45,10 @@ pub(crate) fn is_known(stand: Stand<'_>, text: &[u8]) -> bool
     ensures { result ≡ is_known (stand_of stand.entry) text.now }
 {
     match stand {
-        Stand::Class => text == b"BootstrapMethods".as_slice() || is_annotations(text),
-        Stand::Field(_) => text == b"ConstantValue".as_slice() || is_annotations(text),
-        Stand::Method => text == b"Code".as_slice() || is_annotations(text),
-        Stand::Code => text == b"StackMapTable".as_slice(),
+        Stand::Class => text == BOOTSTRAP_METHODS_NAME || is_annotations(text),
+        Stand::Field(_) => text == CONSTANT_VALUE_NAME || is_annotations(text),
+        Stand::Method => text == CODE_NAME || is_annotations(text),
+        Stand::Code => text == STACK_MAP_TABLE_NAME,
     }
 }
 

@@ -10,6 +10,7 @@ ghost use Rattle.class_read.specs.Targets.{leads_to};
 
 use crate::item_lists::ReadItem;
 use crate::numbers::u2_in;
+use class_text::OBJECT_NAME;
 use const_pool::{ClassFault, JudgedPool, offset_of};
 
 /// What an index leads to.
@@ -54,7 +55,7 @@ fn is_object(pool: &JudgedPool, number: u16) -> bool
     ensures { result ≡ bytes_eq (unwrap_or (class_at pool.now number) []) (codes "java/lang/Object") }
 {
     match pool.as_pool().class_name(number) {
-        Some(name) => name == b"java/lang/Object".as_slice(),
+        Some(name) => name == OBJECT_NAME,
         None => false,
     }
 }

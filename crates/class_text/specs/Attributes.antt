@@ -1,5 +1,5 @@
 -- Reading attributes (JVMS 4.7).
-use Rattle.std.specs.Prelude.{ℕ, Bool, false, not, ◌&&◌, ◌||◌, ◌==◌, nat_lt, nat_le, List, [], map, codes, bytes_eq, unwrap_or, Ok, Err, if◌then◌else◌}
+use Rattle.std.specs.Prelude.{ℕ, Bool, false, not, ◌&&◌, ◌||◌, ◌==◌, nat_lt, nat_le, List, [], map, bytes_eq, unwrap_or, Ok, Err, if◌then◌else◌}
 use Rattle.std.specs.List.{list_any}
 use Rattle.class_model.specs.declared.constant_pool.Pool.{Pool}
 use Rattle.class_model.specs.declared.attribute_forms.Attribute.{Attribute, roll-Attribute}
@@ -8,6 +8,7 @@ use Rattle.class_model.specs.declared.attribute_forms.Handler.{Handler}
 use Rattle.class_model.specs.declared.attribute_forms.Bootstrap.{Bootstrap}
 use Rattle.class_model.specs.Constants.{constant_at, text_at, is_some_that}
 use Rattle.class_model.specs.Attributes.{Place, in_class, in_field, in_method, in_code, is_known, is_value_for, is_loadable, is_handle, attribute_name}
+use Rattle.class_text.specs.Format.{bootstrap_methods_name, constant_value_name, code_name, stack_map_table_name, most_code}
 use Rattle.class_text.specs.Reading.{bad_attribute, bad_length, barred_code, second_attribute, ◌>>=◌, place}
 use Rattle.class_text.specs.Readers.{Reader, u2_at, u4_at, index_at, counted_at, counted_after, run_at, within}
 use Rattle.class_text.specs.Frames.{leads_to_class, frame_at}
@@ -77,7 +78,7 @@ annotations_at pool name at end bytes =
 -- the content of an attribute of code
 unfoldable pub code_content_at : Pool → ℕ → ℕ → Reader Attribute
 code_content_at pool name at end bytes =
-    if bytes_eq (codes "StackMapTable") (text_or_empty pool name) then stack_map_at pool name end bytes
+    if bytes_eq stack_map_table_name (text_or_empty pool name) then stack_map_at pool name end bytes
     else other_at name end bytes
 
 -- ---- an attribute
@@ -89,7 +90,7 @@ named_at pool stand barred before end bytes =
     index_at (leads_to_text pool) end bytes
     >>= (λ name.
     if is_first (is_known stand) bytes_eq (map (attribute_name pool) before) (text_or_empty pool name.0) then
-    if barred && bytes_eq (codes "Code") (text_or_empty pool name.0) then Err (bad_attribute (place end bytes) barred_code) else Ok name
+    if barred && bytes_eq code_name (text_or_empty pool name.0) then Err (bad_attribute (place end bytes) barred_code) else Ok name
     else Err (second_attribute (place end bytes)))
 
 -- an attribute, whose content is read by its name and the place where the attribute stands
@@ -110,7 +111,7 @@ code_attributes_at pool = counted_after (code_attribute_at pool)
 unfoldable pub code_bytes_at : ℕ → Reader (List ℕ)
 code_bytes_at at end bytes =
     u4_at end bytes
-    >>= (λ len. if nat_lt 0 len.0 && nat_le len.0 65535 then run_at len.0 end len.1
+    >>= (λ len. if nat_lt 0 len.0 && nat_le len.0 most_code then run_at len.0 end len.1
     else Err (bad_attribute at (bad_length len.0)))
 
 -- JVMS 4.7.3
@@ -125,10 +126,10 @@ code_at pool name at end bytes =
 
 -- The name that is known in a place alone, and the content under it.
 abbrev pub own_name : Place → List ℕ
-own_name in_class = codes "BootstrapMethods"
-own_name (in_field descriptor) = codes "ConstantValue"
-own_name in_method = codes "Code"
-own_name in_code = codes "StackMapTable"
+own_name in_class = bootstrap_methods_name
+own_name (in_field descriptor) = constant_value_name
+own_name in_method = code_name
+own_name in_code = stack_map_table_name
 
 abbrev pub own_content_at : Pool → Place → ℕ → ℕ → Reader Attribute
 own_content_at pool in_class name at = bootstraps_at pool name

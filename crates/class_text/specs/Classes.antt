@@ -1,5 +1,5 @@
 -- Reading a class file (JVMS 4.1, 4.5 and 4.6), with the first bad place.
-use Rattle.std.specs.Prelude.{ℕ, Bool, true, false, ◌&&◌, ◌||◌, ◌==◌, nat_le, List, [], length, codes, bytes_eq, unwrap_or, Result, Ok, Err, if◌then◌else◌}
+use Rattle.std.specs.Prelude.{ℕ, Bool, true, false, ◌&&◌, ◌||◌, ◌==◌, nat_le, List, [], length, bytes_eq, unwrap_or, Result, Ok, Err, if◌then◌else◌}
 use Rattle.class_model.specs.declared.constant_pool.Pool.{Pool}
 use Rattle.class_model.specs.declared.class_file.Class.{Class}
 use Rattle.class_model.specs.declared.class_file.Member.{Member}
@@ -9,6 +9,7 @@ use Rattle.class_model.specs.Constants.{text_at, class_at, is_some_that}
 use Rattle.class_model.specs.Attributes.{in_class, in_field, in_method}
 use Rattle.class_model.specs.Shape.{is_abstract, is_native, is_plain_class, are_same, most_slots, has_code}
 use Rattle.class_model.specs.Spelling.{magic}
+use Rattle.class_text.specs.Format.{oldest_major, newest_major, object_name}
 use Rattle.class_text.specs.Reading.{Fault, bad_magic, bad_major, code_missing, bytes_left, ◌>>=◌, place}
 use Rattle.class_text.specs.Readers.{Reader, u2_at, u4_at, index_at, counted_at, counted_after}
 use Rattle.class_text.specs.Pool.{pool_at}
@@ -62,7 +63,7 @@ method_at pool before end bytes =
 -- the class above a class of a number; none above `java/lang/Object` alone
 unfoldable pub leads_to_super : Pool → ℕ → ℕ → Bool
 leads_to_super pool this n =
-    if n == 0 then bytes_eq (unwrap_or (class_at pool this) []) (codes "java/lang/Object") else is_plain_class pool n
+    if n == 0 then bytes_eq (unwrap_or (class_at pool this) []) object_name else is_plain_class pool n
 
 -- the magic, the minor and the major version
 unfoldable pub minor_at : Reader ℕ
@@ -70,7 +71,7 @@ minor_at end bytes = u4_at end bytes >>= (λ found. if found.0 == magic then u2_
 
 unfoldable pub major_at : Reader ℕ
 major_at end bytes =
-    u2_at end bytes >>= (λ major. if nat_le 52 major.0 && nat_le major.0 65 then Ok major else Err (bad_major major.0))
+    u2_at end bytes >>= (λ major. if nat_le oldest_major major.0 && nat_le major.0 newest_major then Ok major else Err (bad_major major.0))
 
 -- what stands behind the pool
 unfoldable pub behind_pool_at : ℕ → ℕ → Pool → Reader Class

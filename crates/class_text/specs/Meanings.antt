@@ -1,5 +1,5 @@
 -- What a fault says of the bytes at its place.
-use Rattle.std.specs.Prelude.{◌≡◌, ◌≢◌, ◌⊎◌, ◌+◌, ◌^◌, ◌<◌, ◌≤◌, ◌++◌, ◌∷◌, [], ℕ, Bool, true, false, List, length, take, drop, map, codes, bytes_eq, flat_map, Ok}
+use Rattle.std.specs.Prelude.{◌≡◌, ◌≢◌, ◌⊎◌, ◌+◌, ◌^◌, ◌<◌, ◌≤◌, ◌++◌, ◌∷◌, [], ℕ, Bool, true, false, List, length, take, drop, map, bytes_eq, flat_map, Ok}
 use Rattle.std.specs.Int.{w16, w32, to_be_bytes}
 use Rattle.class_model.specs.declared.constant_pool.Pool.{Pool}
 use Rattle.class_model.specs.declared.class_file.Class.{Class}
@@ -9,6 +9,7 @@ use Rattle.class_model.specs.Attributes.{Place, is_known, attribute_name}
 use Rattle.class_model.specs.ModifiedUtf8.{IsModifiedUtf8}
 use Rattle.class_model.specs.Shape.{is_plain_class, has_code}
 use Rattle.class_model.specs.Spelling as spelling
+use Rattle.class_text.specs.Format.{oldest_major, newest_major, most_code, code_name, visible_annotations_name}
 use Rattle.class_text.specs.Reading.{Badness, cut_within, goes_on, bad_length, too_deep, barred_code, Fault, cut_short, bad_tag, bad_text, bad_index, astray, bad_magic, bad_major, bad_attribute, second_attribute, code_missing, bytes_left, place}
 use Rattle.class_text.specs.Pool.{pool_at, is_tag, is_wide, IsWrongAt}
 use Rattle.class_text.specs.Frames.{leads_to_class}
@@ -97,15 +98,15 @@ pub record IsBadLength (file : List ℕ) (start len : ℕ) : Type 0 where
   pub at : ℕ
   pub stands : StandsAt file at (to_be_bytes w32 len)
   pub behind : start ≤ at
-  pub outside : (len ≡ 0) ⊎ (65535 < len)
+  pub outside : (len ≡ 0) ⊎ (most_code < len)
 
 -- Why an attribute of a name is bad.
 abbrev pub IsBadFor : Pool → List ℕ → ℕ → ℕ → Badness → Type 0
 IsBadFor pool file start name (cut_within at stop) = IsCutAt start stop at × (stop ≤ length file)
 IsBadFor pool file start name (goes_on at stop) = IsLeftOver file at stop
-IsBadFor pool file start name (bad_length len) = IsBadLength file start len × (text_or_empty pool name ≡ codes "Code")
-IsBadFor pool file start name too_deep = text_or_empty pool name ≡ codes "RuntimeVisibleAnnotations"
-IsBadFor pool file start name barred_code = text_or_empty pool name ≡ codes "Code"
+IsBadFor pool file start name (bad_length len) = IsBadLength file start len × (text_or_empty pool name ≡ code_name)
+IsBadFor pool file start name too_deep = text_or_empty pool name ≡ visible_annotations_name
+IsBadFor pool file start name barred_code = text_or_empty pool name ≡ code_name
 
 -- The name of an attribute stands there that is bad for this reason.
 pub record IsBadAttribute (pool : Pool) (file : List ℕ) (start at : ℕ) (why : Badness) : Type 0 where
@@ -174,7 +175,7 @@ pub record IsBehindPool (P : Pool → ℕ → Type 0) (file : List ℕ) : Type 0
 -- What the first bad place of a class file says. The magic, the minor and the major version stand before the pool.
 abbrev pub IsMeant : List ℕ → Fault → Type 0
 IsMeant file bad_magic = (number : ℕ) × StandsAt file 0 (to_be_bytes w32 number) × (number ≢ spelling.magic)
-IsMeant file (bad_major version) = StandsAt file 6 (to_be_bytes w16 version) × ((version < 52) ⊎ (65 < version))
+IsMeant file (bad_major version) = StandsAt file 6 (to_be_bytes w16 version) × ((version < oldest_major) ⊎ (newest_major < version))
 IsMeant file (bytes_left at) = (at < length file) × ((c : Class) × (class_of (take at file) ≡ Ok c))
 IsMeant file (cut_short at) = IsShort (length file) at
 IsMeant file (bad_text at) = IsBadText file 8 at

@@ -24,6 +24,7 @@ use Rattle.class_model.specs.Annotations.{is_value_of}
 use Rattle.class_model.specs.Attributes.{Place, in_class, in_field, in_method, in_code, is_known, is_named, is_value_for, has_layout, is_loadable, is_handle, attribute_name}
 use Rattle.class_model.specs.Shape.{is_plain_class, descriptor_text, are_same, most_slots, is_bare, is_code_layer, has_code, has_super}
 use Rattle.class_model.specs.Spelling.{greatest_depth, content_by, no_attribute, code_attribute}
+use Rattle.class_text.specs.Format.{oldest_major, newest_major, most_code}
 use Rattle.const_pool.specs.Writing as pool
 use Rattle.const_pool.specs.declared.write_fault.Part.{Part}
 use Rattle.const_pool.specs.declared.write_fault.Part.TheVariants as parts
@@ -214,7 +215,7 @@ code_attributes pool holder list = counted (parts.Attributes holder) (code_attri
 
 -- JVMS 4.7.3
 abbrev pub is_code_length : ℕ → Bool
-is_code_length n = nat_lt 0 n && nat_le n 65535
+is_code_length n = nat_lt 0 n && nat_le n most_code
 
 abbrev pub code : Pool → AttributeId → List ℕ → List Handler → List Attribute → Option WriteFault
 code pool id bytes table inner =
@@ -275,7 +276,7 @@ abbrev pub interfaces : Pool → List ℕ → Option WriteFault
 interfaces pool = counted parts.Interfaces (λ n index. interface pool n index)
 
 abbrev pub version : Class → Option WriteFault
-version c = unless (nat_le 52 c.major && nat_le c.major 65) (BadShape parts.Major)
+version c = unless (nat_le oldest_major c.major && nat_le c.major newest_major) (BadShape parts.Major)
 
 abbrev pub names : Class → Option WriteFault
 names c = unless (is_plain_class c.pool c.this_class) (BadShape parts.ThisClass) <|> unless (has_super c) (BadShape parts.SuperClass)

@@ -15,6 +15,10 @@ ghost use Rattle.class_write.specs.Order.{Refuses};
 use crate::contents::{put_code_bytes, put_handlers, put_plain};
 use crate::item_lists::{WriteItem, write_counted};
 use class_model::{Attribute, Handler, Pool};
+use class_text::{
+    BOOTSTRAP_METHODS_NAME, CODE_NAME, CONSTANT_VALUE_NAME, STACK_MAP_TABLE_NAME,
+    VISIBLE_ANNOTATIONS_NAME,
+};
 use const_pool::{AttributeId, AttributePart, Holder, Part, WriteFault, put_u2, put_u4};
 use std::alloc::Global;
 
@@ -32,12 +36,12 @@ fn is_either(text: &[u8], one: &[u8], other: &[u8]) -> bool
 fn is_known(holder: Holder, text: &[u8]) -> bool
     ensures { (descriptor : List ℕ) → result ≡ is_known (attribute_place holder descriptor) text.now }
 {
-    let annotations = b"RuntimeVisibleAnnotations".as_slice();
+    let annotations = VISIBLE_ANNOTATIONS_NAME;
     match holder {
-        Holder::Class => is_either(text, b"BootstrapMethods", annotations),
-        Holder::Field(_) => is_either(text, b"ConstantValue", annotations),
-        Holder::Method(_) => is_either(text, b"Code", annotations),
-        Holder::Code(_) => text == b"StackMapTable".as_slice(),
+        Holder::Class => is_either(text, BOOTSTRAP_METHODS_NAME, annotations),
+        Holder::Field(_) => is_either(text, CONSTANT_VALUE_NAME, annotations),
+        Holder::Method(_) => is_either(text, CODE_NAME, annotations),
+        Holder::Code(_) => text == STACK_MAP_TABLE_NAME,
     }
 }
 
@@ -103,13 +107,11 @@ fn has_name(pool: &Pool, holder: Holder, attribute: &Attribute) -> bool
     ensures { (descriptor : List ℕ) → result ≡ misfits.has_name pool.now (attribute_place holder descriptor) (out-Attribute attribute.now) }
 {
     match attribute {
-        Attribute::Code { name, .. } => pool.is_named(b"Code", *name),
-        Attribute::StackMap { name, .. } => pool.is_named(b"StackMapTable", *name),
-        Attribute::ConstantValue { name, .. } => pool.is_named(b"ConstantValue", *name),
-        Attribute::Bootstrap { name, .. } => pool.is_named(b"BootstrapMethods", *name),
-        Attribute::Annotations { name, .. } => {
-            pool.is_named(b"RuntimeVisibleAnnotations", *name)
-        }
+        Attribute::Code { name, .. } => pool.is_named(CODE_NAME, *name),
+        Attribute::StackMap { name, .. } => pool.is_named(STACK_MAP_TABLE_NAME, *name),
+        Attribute::ConstantValue { name, .. } => pool.is_named(CONSTANT_VALUE_NAME, *name),
+        Attribute::Bootstrap { name, .. } => pool.is_named(BOOTSTRAP_METHODS_NAME, *name),
+        Attribute::Annotations { name, .. } => { pool.is_named(VISIBLE_ANNOTATIONS_NAME, *name) }
         Attribute::Other { name, .. } => is_unknown(pool, holder, *name),
     }
 }

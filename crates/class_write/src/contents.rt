@@ -17,10 +17,8 @@ use crate::annotations::put_annotations;
 use crate::frames::put_frames;
 use crate::item_lists::{WriteItem, write_counted};
 use class_model::{Attribute, Bootstrap, Handler, Pool};
+use class_text::MOST_CODE;
 use const_pool::{AttributeId, AttributePart, Part, WriteFault, put_u2, put_u4};
-
-/// The greatest length of code (JVMS 4.7.3).
-const GREATEST_LENGTH: usize = 65535;
 
 /// Whether a handler may catch this class, 0 for all.
 fn is_catch_type(pool: &Pool, class: u16) -> bool
@@ -210,7 +208,7 @@ pub(crate) fn put_code_bytes(
     ensures bytes { OnOk result (IsBytes code.now) }
     ensures fault { IfErr result (λ e. Refuses e (unless (misfits.is_code_length (length code.now)) (faults.BadShape (misfits.at id items.Code)))) }
 {
-    if code.is_empty() || code.len() > GREATEST_LENGTH {
+    if code.is_empty() || code.len() > MOST_CODE as usize {
         return Err(WriteFault::BadShape(Part::Attribute(id, AttributePart::Code)));
     }
     put_u2(out, max_stack)?;

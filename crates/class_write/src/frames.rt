@@ -13,25 +13,11 @@ ghost use Rattle.const_pool.specs.declared.write_fault.AttributePart.TheVariants
 
 use crate::item_lists::{WriteItem, write_counted, write_many};
 use class_model::{FrameType, Pool, StackFrame};
+use class_text::{
+    APPEND_TAG, FULL_TAG, OBJECT_TAG, RESERVED_TAG, SAME_EXTENDED_TAG, SAME_LOCALS_1_EXTENDED_TAG,
+    SAME_LOCALS_1_TAG, UNINITIALIZED_TAG,
+};
 use const_pool::{AttributeId, AttributePart, Part, WriteFault, put_u2};
-
-/// The tags of verification types that have an index or an offset behind them; those below have nothing.
-const OBJECT_TAG: u8 = 7;
-
-const UNINITIALIZED_TAG: u8 = 8;
-
-/// The lowest tag of each form of frame; a frame of a lower tag is the same as the one before.
-const SAME_LOCALS_1_TAG: u8 = 64;
-
-const RESERVED_TAG: u8 = 128;
-
-const SAME_LOCALS_1_EXTENDED_TAG: u8 = 247;
-
-const SAME_EXTENDED_TAG: u8 = 251;
-
-const APPEND_TAG: u8 = 252;
-
-const FULL_TAG: u8 = 255;
 
 #[tactic(auto, unfolding(crate::specs::Misfits::is_frame_type))]
 fn is_frame_type(pool: &Pool, t: &FrameType) -> bool

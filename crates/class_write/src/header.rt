@@ -16,14 +16,10 @@ use crate::attributes::{Stand, put_attributes};
 use crate::item_lists::{WriteItem, write_counted};
 use crate::members::{put_fields, put_methods};
 use class_model::{Class, MAGIC, Pool};
+use class_text::{NEWEST_MAJOR, OBJECT_NAME, OLDEST_MAJOR};
 use const_pool::{Holder, Part, WriteFault, put_u2, put_u4, write_pool};
 use std::alloc::Global;
 use tree_value::Bytes;
-
-/// The major versions of class files (JVMS 4.1) that have a text, those of Java 8 to Java 21.
-const OLDEST_MAJOR: u16 = 52;
-
-const NEWEST_MAJOR: u16 = 65;
 
 /// Writes the magic number and the versions.
 #[tactic(auto, using(crate::proofs::Faults::faults))]
@@ -61,7 +57,7 @@ fn has_super(class: &Class) -> bool
     ensures { result ≡ has_super class.now }
 {
     if class.super_class == 0 {
-        return class.name() == b"java/lang/Object".as_slice();
+        return class.name() == OBJECT_NAME;
     }
     class.pool.is_plain_class(class.super_class)
 }
