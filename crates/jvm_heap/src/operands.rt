@@ -2,7 +2,7 @@
 
 ghost use Rattle.std.specs.Prelude.{◌≡◌, [], None, Some, IfOk, option_map, if◌then◌else◌};
 ghost use Rattle.jvm_tables.specs.declared.instruction.ValueKind.TheVariants as values;
-ghost use Rattle.jvm_heap.specs.Operands.{pushed, popped, taken};
+ghost use Rattle.jvm_heap.specs.Operands.{with_slots, pushed, popped, taken};
 
 use crate::slot::Slot;
 use std::alloc::{AllocError, Global};
@@ -34,6 +34,13 @@ impl Operands {
     {
         let slots = vec![in alloc; Slot::Top; limit]?;
         Ok(Operands { slots, depth: 0 })
+    }
+
+    /// Takes all.
+    pub fn clear(&mut self)
+        ensures { self.new ≡ with_slots self.old [] }
+    {
+        self.depth = 0;
     }
 
     /// Puts a slot on top, where there is room.
