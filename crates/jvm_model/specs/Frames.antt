@@ -75,13 +75,15 @@ first_handler class pc (c ∷ catches) caught past =
     else first_handler class pc catches caught past
 
 -- the exception alone on the stack, at the handler
-abbrev pub at_handler : MethodFrame → ℕ → ℕ → MethodFrame
-at_handler f o handler = at_pc handler (with_operands (with_slots f.operands (Ref o ∷ [])) f)
+abbrev pub at_handler : MethodFrame → List Frame → Shared → ℕ → Option Operands → Plan Move
+at_handler f frames s handler None = ends stuck
+at_handler f frames s handler (Some operands) =
+    ends (goes (state s (of_method (at_pc handler (with_operands operands f)) ∷ frames)))
 
 abbrev pub caught_in : MethodFrame → List Frame → Shared → ℕ → List ℕ → Plan Move → Option MethodRow → Plan Move
 caught_in f frames s o class past None = ends stuck
 caught_in f frames s o class past (Some row) =
-    first_handler class f.pc row.catches (λ handler. ends (goes (state s (of_method (at_handler f o handler) ∷ frames)))) past
+    first_handler class f.pc row.catches (λ handler. at_handler f frames s handler (pushed (Ref o) (with_slots f.operands []))) past
 
 abbrev pub marked_failed : List ℕ → Shared → Shared
 marked_failed class s = record { world = s.world; statics = s.statics; initialised = (class, true) ∷ s.initialised }
