@@ -1,7 +1,8 @@
 -- What the code's frames show.
 use Rattle.std.specs.Prelude.{List, map, reverse}
 use Rattle.class_model.specs.declared.identifiers.ClassId.{ClassId}
-use Rattle.class_model.specs.declared.identifiers.SiteId.{SiteId}
+use Rattle.class_model.specs.declared.identifiers.MemberId.{MemberId}
+use Rattle.class_model.specs.declared.identifiers.MemberRef.{MemberRef}
 use Rattle.jvm_heap.specs.declared.frame.Frame as methods
 use Rattle.native_model.specs.Ends.{progress_of}
 use Rattle.jvm_heap.specs.declared.slot.Slot.{Slot}
@@ -17,9 +18,9 @@ use Rattle.jvm_state.specs.declared.frame.Frame.TheVariants as frames
 use Rattle.jvm_state.specs.declared.frame.InitialisingFrame.{InitialisingFrame}
 use Rattle.jvm_state.specs.Names.{Names, called_of, pending_of}
 
-abbrev pub method_frame : Names → methods.Frame → states.MethodFrame
-method_frame n f =
-    record { method = n.method f.method; pc = f.pc; next = f.next; locals = f.locals; operands = f.operands }
+abbrev pub method_frame : (MemberId → MemberRef) → methods.Frame → states.MethodFrame
+method_frame named f =
+    record { method = named f.method; pc = f.pc; next = f.next; locals = f.locals; operands = f.operands }
 
 abbrev pub native_frame : Names → NativeCall → states.NativeFrame
 native_frame n f = record { called = called_of n f.called; arguments = f.arguments; progress = progress_of f.progress }
@@ -41,7 +42,7 @@ abbrev pub forwarded : Origin → List Slot → states.Frame
 forwarded o slots = states.forwarding (adaptation_of o.site) o.site.implementing.member slots
 
 abbrev pub frame_of : Names → (ClassId → Initialiser) → Frame → states.Frame
-frame_of n initialiser (frames.Method f) = states.of_method (method_frame n f)
+frame_of n initialiser (frames.Method f) = states.of_method (method_frame n.method f)
 frame_of n initialiser (frames.Native f) = states.of_native (native_frame n f)
 frame_of n initialiser (frames.Forwarding site slots) = forwarded (n.lambda site) slots
 frame_of n initialiser (frames.Adapting a) = states.adapting (adaptation_seen n a)

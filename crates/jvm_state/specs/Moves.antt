@@ -2,8 +2,10 @@
 use Rattle.std.specs.Prelude.{◌≡◌, Result, IfOk}
 use Rattle.native_model.specs.Ends.{reference_of}
 use Rattle.native_model.specs.declared.fault.StepFault.{StepFault}
+use Rattle.native_model.specs.Worlds.{World}
 use Rattle.jvm_model.specs.States.{State}
 use Rattle.jvm_model.specs.Frames as frames
+use Rattle.jvm_model.specs.Frames.{without_objects}
 use Rattle.jvm_state.specs.declared.moves.Ending.{Ending}
 use Rattle.jvm_state.specs.declared.moves.Ending.TheVariants as endings
 use Rattle.jvm_state.specs.declared.moves.Need.{Need}
@@ -20,10 +22,15 @@ abbrev pub need_of : Need → frames.Need
 need_of (needs.File reference path) = frames.file_at (reference_of reference) path
 need_of (needs.Names reference) = frames.names_below (reference_of reference)
 
+-- Nothing of the objects is told where a budget is spent.
+abbrev pub world_left : Ending → World → World
+world_left (endings.Spent budget) w = without_objects w
+world_left ending w = w
+
 -- a move that leaves a state
 abbrev pub move_of : Move → State → frames.Move
 move_of moves.Goes s = frames.goes s
-move_of (moves.Finishes ending) s = frames.finishes (ending_of ending) s.shared.world
+move_of (moves.Finishes ending) s = frames.finishes (ending_of ending) (world_left ending s.shared.world)
 move_of (moves.Needs need) s = frames.needs (need_of need) s
 move_of moves.Stuck s = frames.stuck
 

@@ -1,13 +1,16 @@
 //! What a program tells of its classes, fields and the code of its methods.
 
 ghost use Rattle.std.specs.Prelude.{◌≡◌, IfSome, is_some, option_map, option_and_then, position};
+ghost use Rattle.class_model.specs.declared.identifiers.ClassId.{ClassId};
 ghost use Rattle.class_model.specs.declared.identifiers.MemberId.{MemberId};
 ghost use Rattle.class_model.specs.declared.identifiers.MemberRef.{MemberRef};
 ghost use Rattle.class_model.specs.declared.identifiers.SiteId.{SiteId};
 ghost use Rattle.class_code.specs.Parts.{member_ref};
 ghost use Rattle.jvm_heap.specs.Renaming.{renamed_object};
 ghost use Rattle.native_model.specs.Worlds.{class_of as class_of_object};
-ghost use Rattle.jvm_model.specs.Plans.{class_of, code_of, layout_of, resolve_field};
+ghost use Rattle.jvm_model.specs.Plans.{Initialiser, class_of, code_of, layout_of, resolve_field};
+ghost use Rattle.native_model.specs.Ends.{thrown_of};
+ghost use Rattle.jvm_model.specs.Frames.{initializer_error};
 ghost use Rattle.jvm_model.specs.States.{Called};
 ghost use Rattle.jvm_model.specs.Instructions.{field_ref};
 ghost use Rattle.jvm_model.specs.Initialising.{same_member};
@@ -17,6 +20,7 @@ use class_code::MemberView;
 use class_model::{ClassId, MemberId};
 use jvm_heap::Object;
 use jvm_resolve::Lookups;
+use native_model::Throw;
 
 /// What becomes of an exception in a frame.
 #[derive(Clone, Copy, Drop)]
@@ -37,10 +41,21 @@ pub trait Members: Lookups {
     /// What runs at the site of a concatenation.
     ghost concatenation_at: { Self → SiteId → Called };
 
+    /// What initialising a class does by itself.
+    ghost initialiser: { Self → ClassId → Initialiser };
+
     /// The place of a class that is there.
     fn class_id(&self, name: &[u8]) -> Option<ClassId>
         ensures there { is_some result ≡ is_some (oracle self.now (class_of name.now)) }
         ensures named { IfSome result (λ class. Self.class_name self.now class ≡ name.now) };
+
+    /// The class of what is thrown.
+    fn class_thrown(&self, throw: &Throw) -> ClassId
+        ensures { Self.class_name self.now result ≡ (thrown_of throw.now).class };
+
+    /// The class of what is thrown where an initializer throws no Error (JVMS 5.5).
+    fn initializer_error(&self) -> ClassId
+        ensures { Self.class_name self.now result ≡ initializer_error };
 
     /// The field that a reference leads to, and whether it is static (JVMS 5.4.3.2).
     fn resolve_field(&self, field: MemberView<'_>) -> Option<(MemberId, bool)>
