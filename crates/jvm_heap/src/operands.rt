@@ -72,7 +72,8 @@ impl Operands {
     /// Takes an int, where one is on top.
     #[tactic(auto, unfolding(crate::specs::Operands::taken))]
     pub fn take_int(&mut self) -> Option<i32>
-        ensures { taken values.Int self.old ≡ option_map (λ n. (n, self.new)) result }
+        ensures value { taken values.Int self.old ≡ option_map (λ n. (n, self.new)) result }
+        ensures limit { self.new.limit ≡ self.old.limit }
     {
         if self.depth == 0 {
             return None;
@@ -89,7 +90,8 @@ impl Operands {
     /// Takes a long, where one is on top.
     #[tactic(auto, unfolding(crate::specs::Operands::taken))]
     pub fn take_long(&mut self) -> Option<i64>
-        ensures { taken values.Long self.old ≡ option_map (λ n. (n, self.new)) result }
+        ensures value { taken values.Long self.old ≡ option_map (λ n. (n, self.new)) result }
+        ensures limit { self.new.limit ≡ self.old.limit }
     {
         if self.depth < 2 {
             return None;
@@ -106,7 +108,8 @@ impl Operands {
     /// Takes a reference, where one is on top.
     #[tactic(auto, unfolding(crate::specs::Operands::taken))]
     pub fn take_reference(&mut self) -> Option<u32>
-        ensures { taken values.Reference self.old ≡ option_map (λ n. (n, self.new)) result }
+        ensures value { taken values.Reference self.old ≡ option_map (λ n. (n, self.new)) result }
+        ensures limit { self.new.limit ≡ self.old.limit }
     {
         if self.depth == 0 {
             return None;
