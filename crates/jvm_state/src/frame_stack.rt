@@ -11,7 +11,7 @@ use std::marker::Model;
 #[derive(Drop)]
 pub struct FrameStack {
     frames: Vec<Frame>,
-    counted: usize,
+    counted_frames: usize,
 }
 
 impl Model for FrameStack {
@@ -23,7 +23,7 @@ impl Model for FrameStack {
 
     ghost view = { λ s. reverse s.frames.items };
 
-    ghost invariant = { λ s. s.counted ≡ counted (reverse s.frames.items) };
+    ghost invariant = { λ s. s.counted_frames ≡ counted (reverse s.frames.items) };
 }
 
 impl Frame {
@@ -45,7 +45,7 @@ impl FrameStack {
     {
         FrameStack {
             frames: Vec::new(alloc),
-            counted: 0,
+            counted_frames: 0,
         }
     }
 
@@ -53,7 +53,7 @@ impl FrameStack {
     pub fn counted(&self) -> usize
         ensures { result ≡ counted self.now }
     {
-        self.counted
+        self.counted_frames
     }
 
     /// Puts a frame above the others.
@@ -65,7 +65,7 @@ impl FrameStack {
         let counts = frame.is_counted();
         self.frames.push(frame)?;
         if counts {
-            self.counted += 1;
+            self.counted_frames += 1;
         }
         Ok(())
     }
@@ -77,7 +77,7 @@ impl FrameStack {
     {
         let frame = self.frames.pop()?;
         if frame.is_counted() {
-            self.counted -= 1;
+            self.counted_frames -= 1;
         }
         Some(frame)
     }

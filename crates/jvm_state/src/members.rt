@@ -46,7 +46,7 @@ pub trait Members: Lookups {
 
     /// The place of a class that is there.
     fn class_id(&self, name: &[u8]) -> Option<ClassId>
-        ensures there { is_some result ≡ is_some (oracle self.now (class_of name.now)) }
+        ensures there { is_some result ≡ is_some (Self.oracle self.now (class_of name.now)) }
         ensures named { IfSome result (λ class. Self.class_name self.now class ≡ name.now) };
 
     /// The class of what is thrown.
@@ -59,7 +59,7 @@ pub trait Members: Lookups {
 
     /// The field that a reference leads to, and whether it is static (JVMS 5.4.3.2).
     fn resolve_field(&self, field: MemberView<'_>) -> Option<(MemberId, bool)>
-        ensures owner { oracle self.now (resolve_field (member_ref field.entry))
+        ensures owner { Self.oracle self.now (resolve_field (member_ref field.entry))
             ≡ option_map (λ found. ((field_name self.now found.0).owner, found.1)) result }
         ensures named { IfSome result (λ found. field_name self.now found.0
             ≡ field_ref (field_name self.now found.0).owner (member_ref field.entry)) };
@@ -67,15 +67,15 @@ pub trait Members: Lookups {
     /// The place of a field among those of an object.
     fn field_place(&self, object: &Object, field: MemberId) -> Option<u32>
         ensures { result ≡ option_and_then (λ l. position (same_member (field_name self.now field)) l.fields)
-            (oracle self.now (layout_of (class_of_object
+            (Self.oracle self.now (layout_of (class_of_object
             (renamed_object (Self.class_name self.now) (Self.site_origin self.now) object.now)))) };
 
     /// The operands and the locals for which a method has room (JVMS 4.7.3).
     fn frame_size(&self, method: MemberId) -> Option<(u16, u16)>
-        ensures { result ≡ option_map room_of (oracle self.now (code_of (Self.method_name self.now method))) };
+        ensures { result ≡ option_map room_of (Self.oracle self.now (code_of (Self.method_name self.now method))) };
 
     /// What becomes of an exception of a class at a pc of a method (JVMS 2.10).
     fn handler(&self, method: MemberId, pc: u32, class: &[u8]) -> Handling
-        ensures { handling_of result ≡ option_map (handler_in (oracle self.now) class.now pc)
-            (oracle self.now (code_of (Self.method_name self.now method))) };
+        ensures { handling_of result ≡ option_map (handler_in (Self.oracle self.now) class.now pc)
+            (Self.oracle self.now (code_of (Self.method_name self.now method))) };
 }
