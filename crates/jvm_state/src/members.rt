@@ -64,6 +64,14 @@ pub trait Members: Lookups {
         ensures named { IfSome result (λ found. field_name self.now found.0
             ≡ field_ref (field_name self.now found.0).owner (member_ref field.entry)) };
 
+    /// The class that declares a field.
+    fn class_of_field(&self, field: MemberId) -> ClassId
+        ensures { Self.class_name self.now result ≡ (field_name self.now field).owner };
+
+    /// The class that declares a method.
+    fn class_of_method(&self, method: MemberId) -> ClassId
+        ensures { Self.class_name self.now result ≡ (Self.method_name self.now method).owner };
+
     /// The place of a field among those of an object.
     fn field_place(&self, object: &Object, field: MemberId) -> Option<u32>
         ensures { result ≡ option_and_then (λ l. position (same_member (field_name self.now field)) l.fields)
