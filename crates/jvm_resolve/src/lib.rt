@@ -16,4 +16,6 @@ pub use callee::{
 };
 pub use lookups::{Lookups, OriginView, Target};
 pub use stop::Stop;
-pub use types::{class_of, is_assignable, is_instance, is_known, type_named, type_of};
+pub use types::{
+    array_form_of, class_of, is_assignable, is_instance, is_known, type_named, type_of,
+};
