@@ -76,6 +76,14 @@ impl Heap {
         self.cells
     }
 
+    /// How many objects there are.
+    pub fn count(&self) -> u32
+        ensures value { result ≡ length self.now.objects }
+        ensures within { result ≤ most_cells }
+    {
+        self.objects.len() as u32
+    }
+
     /// The allocator that its objects are made with.
     pub fn allocator(&self) -> Global {
         *self.objects.allocator()

@@ -2,7 +2,7 @@
 
 ghost use Rattle.std.specs.Prelude.{◌≡◌, [], None, Some, IfOk, option_map, if◌then◌else◌};
 ghost use Rattle.jvm_tables.specs.declared.instruction.ValueKind.TheVariants as values;
-ghost use Rattle.jvm_heap.specs.Operands.{pushed, popped, taken};
+ghost use Rattle.jvm_heap.specs.Operands.{with_slots, pushed, popped, taken};
 
 use crate::slot::Slot;
 use std::alloc::{AllocError, Global};
@@ -36,6 +36,13 @@ impl Operands {
         Ok(Operands { slots, depth: 0 })
     }
 
+    /// Takes all.
+    pub fn clear(&mut self)
+        ensures { self.new ≡ with_slots self.old [] }
+    {
+        self.depth = 0;
+    }
+
     /// Puts a slot on top, where there is room.
     #[tactic(auto, unfolding(crate::specs::Operands::pushed))]
     pub fn push(&mut self, slot: Slot) -> bool
@@ -65,7 +72,8 @@ impl Operands {
     /// Takes an int, where one is on top.
     #[tactic(auto, unfolding(crate::specs::Operands::taken))]
     pub fn take_int(&mut self) -> Option<i32>
-        ensures { taken values.Int self.old ≡ option_map (λ n. (n, self.new)) result }
+        ensures value { taken values.Int self.old ≡ option_map (λ n. (n, self.new)) result }
+        ensures limit { self.new.limit ≡ self.old.limit }
     {
         if self.depth == 0 {
             return None;
@@ -82,7 +90,8 @@ impl Operands {
     /// Takes a long, where one is on top.
     #[tactic(auto, unfolding(crate::specs::Operands::taken))]
     pub fn take_long(&mut self) -> Option<i64>
-        ensures { taken values.Long self.old ≡ option_map (λ n. (n, self.new)) result }
+        ensures value { taken values.Long self.old ≡ option_map (λ n. (n, self.new)) result }
+        ensures limit { self.new.limit ≡ self.old.limit }
     {
         if self.depth < 2 {
             return None;
@@ -99,7 +108,8 @@ impl Operands {
     /// Takes a reference, where one is on top.
     #[tactic(auto, unfolding(crate::specs::Operands::taken))]
     pub fn take_reference(&mut self) -> Option<u32>
-        ensures { taken values.Reference self.old ≡ option_map (λ n. (n, self.new)) result }
+        ensures value { taken values.Reference self.old ≡ option_map (λ n. (n, self.new)) result }
+        ensures limit { self.new.limit ≡ self.old.limit }
     {
         if self.depth == 0 {
             return None;

@@ -13,7 +13,8 @@ ghost use Rattle.jvm_model.specs.Plans.{end_of};
 ghost use Rattle.jvm_model.specs.Attempts.{or_out};
 ghost use Rattle.jvm_model.specs.Lambdas.{opened, or_cast, unboxed, widened, as_type, boxed, boxed_as};
 ghost use Rattle.jvm_resolve.specs.Ends.{EndsAs};
-ghost use Rattle.jvm_invoke.specs.Changes.{HeapAlone, KeptIfThrown, reference_to};
+ghost use Rattle.jvm_state.specs.Changes.{HeapAlone, KeptIfThrown};
+ghost use Rattle.jvm_invoke.specs.Changes.{reference_to};
 
 use crate::letters::primitive_letter;
 use class_model::TypeForm;

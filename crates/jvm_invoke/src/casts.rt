@@ -6,7 +6,7 @@ ghost use Rattle.class_model.specs.TypeForms.{type_of};
 ghost use Rattle.jvm_model.specs.Plans.{end_of};
 ghost use Rattle.jvm_model.specs.Lambdas.{cast, cast_between, converted};
 ghost use Rattle.jvm_resolve.specs.Ends.{EndsAs};
-ghost use Rattle.jvm_invoke.specs.Changes.{HeapAlone, KeptIfThrown};
+ghost use Rattle.jvm_state.specs.Changes.{HeapAlone, KeptIfThrown};
 ghost use Rattle.jvm_invoke.specs.Letters.{cast_object, converted_value};
 
 use crate::boxes::{as_type, boxed_as};

@@ -1,5 +1,5 @@
 -- How frames end and go on: exceptions, results, and the start of methods and natives (JVMS 2.6.4, 2.6.5, 2.10).
-use Rattle.std.specs.Prelude.{ℕ, ◌-◌, nat_lt, nat_le, Bool, true, false, ◌&&◌, List, [], ◌∷◌, ◌++◌, length, reverse, replicate, count_by, codes, Option, Some, None, option_map, option_and_then, if◌then◌else◌}
+use Rattle.std.specs.Prelude.{ℕ, suc, ◌+◌, ◌-◌, nat_lt, nat_le, Bool, true, false, ◌&&◌, List, [], ◌∷◌, ◌++◌, length, reverse, replicate, codes, Option, Some, None, option_map, option_and_then, if◌then◌else◌}
 use Rattle.jvm_tables.specs.declared.instruction.ValueKind.{ValueKind}
 use Rattle.jvm_tables.specs.declared.instruction.ValueKind.TheVariants as values
 use Rattle.class_model.specs.declared.identifiers.MemberRef.{MemberRef}
@@ -8,7 +8,7 @@ use Rattle.jvm_heap.specs.declared.slot.Slot.{Slot}
 use Rattle.jvm_heap.specs.declared.slot.Slot.TheVariants.{Top, Int, Long, Ref}
 use Rattle.jvm_heap.specs.Operands.{Operands, with_slots, pushed, ValueOf, taken}
 use Rattle.jvm_heap.specs.Objects.{throwable, text}
-use Rattle.jvm_heap.specs.Heaps.{allocated, replaced}
+use Rattle.jvm_heap.specs.Heaps.{empty, allocated}
 use Rattle.native_model.specs.declared.budget.Budget.{Budget}
 use Rattle.native_model.specs.declared.budget.Budget.TheVariants as budgets
 use Rattle.native_model.specs.Worlds.{NamedHeap, World, with_heap, Reference}
@@ -40,24 +40,33 @@ pub data Move : Type 0 where
 abbrev pub Onward : Type 0
 Onward = Shared → Option Slot → Plan Move
 
+-- Where a budget is spent nothing is left of the objects.
+abbrev pub without_objects : World → World
+without_objects w = with_heap empty w
+
 abbrev pub runs_dry : Budget → Shared → Plan Move
-runs_dry b s = ends (finishes (spent b) s.world)
+runs_dry b s = ends (finishes (spent b) (without_objects s.world))
 
 -- exceptions
 
 abbrev pub in_heap : NamedHeap → Shared → Shared
 in_heap h s = with_world (with_heap h s.world) s
 
-abbrev pub with_message : Thrown → ℕ → ℕ × NamedHeap → ℕ × NamedHeap
-with_message t o made = (o, replaced o (throwable t.class [] made.0 0) made.1)
+-- the number of the object that is made behind the next one
+abbrev pub number_behind_next : NamedHeap → ℕ
+number_behind_next h = length h.objects + 2
 
-abbrev pub message_made : Thrown → ℕ × NamedHeap → Option (List ℕ) → Option (ℕ × NamedHeap)
-message_made t made None = Some made
-message_made t made (Some units) = option_map (with_message t made.0) (allocated (text units) made.1)
+abbrev pub message_made : List ℕ → ℕ × NamedHeap → Option (ℕ × NamedHeap)
+message_made units made = option_map (λ m. (made.0, m.1)) (allocated (text units) made.1)
 
--- an exception and then its message
+-- an exception, and behind it its message
+abbrev pub exception_with : List ℕ → NamedHeap → Option (List ℕ) → Option (ℕ × NamedHeap)
+exception_with class h None = allocated (throwable class [] 0 0) h
+exception_with class h (Some units) =
+    option_and_then (message_made units) (allocated (throwable class [] (number_behind_next h) 0) h)
+
 abbrev pub exception_made : Thrown → NamedHeap → Option (ℕ × NamedHeap)
-exception_made t h = option_and_then (λ made. message_made t made t.message) (allocated (throwable t.class [] 0 0) h)
+exception_made t h = exception_with t.class h t.message
 
 abbrev pub covers : ℕ → Catch → Bool
 covers pc c = nat_le c.start pc && nat_lt pc c.end
@@ -75,13 +84,15 @@ first_handler class pc (c ∷ catches) caught past =
     else first_handler class pc catches caught past
 
 -- the exception alone on the stack, at the handler
-abbrev pub at_handler : MethodFrame → ℕ → ℕ → MethodFrame
-at_handler f o handler = at_pc handler (with_operands (with_slots f.operands (Ref o ∷ [])) f)
+abbrev pub at_handler : MethodFrame → List Frame → Shared → ℕ → Option Operands → Plan Move
+at_handler f frames s handler None = ends stuck
+at_handler f frames s handler (Some operands) =
+    ends (goes (state s (of_method (at_pc handler (with_operands operands f)) ∷ frames)))
 
 abbrev pub caught_in : MethodFrame → List Frame → Shared → ℕ → List ℕ → Plan Move → Option MethodRow → Plan Move
 caught_in f frames s o class past None = ends stuck
 caught_in f frames s o class past (Some row) =
-    first_handler class f.pc row.catches (λ handler. ends (goes (state s (of_method (at_handler f o handler) ∷ frames)))) past
+    first_handler class f.pc row.catches (λ handler. at_handler f frames s handler (pushed (Ref o) (with_slots f.operands []))) past
 
 abbrev pub marked_failed : List ℕ → Shared → Shared
 marked_failed class s = record { world = s.world; statics = s.statics; initialised = (class, true) ∷ s.initialised }
@@ -134,12 +145,17 @@ is_counted (of_native n) = true
 is_counted (forwarding a method arguments) = true
 is_counted _ = false
 
+-- how many frames are counted
+abbrev pub counted : List Frame → ℕ
+counted [] = 0
+counted (f ∷ frames) = if is_counted f then suc (counted frames) else counted frames
+
 abbrev pub most_frames : ℕ
 most_frames = 1024
 
 -- there is room for one counted frame more
 abbrev pub if_room : List Frame → Shared → Plan Move → Plan Move
-if_room frames s next = if nat_lt (count_by is_counted frames) most_frames then next else runs_dry budgets.Frames s
+if_room frames s next = if nat_lt (counted frames) most_frames then next else runs_dry budgets.Frames s
 
 -- arguments in locals: a long and its second slot
 abbrev pub laid_out : List Slot → List Slot

@@ -5,7 +5,7 @@ use Rattle.native_model.specs.Worlds.{World}
 use Rattle.native_model.specs.Answers.{Last}
 use Rattle.jvm_model.specs.Plans.{Oracle, Plan, end_of, AllAsked}
 use Rattle.jvm_model.specs.States.{State}
-use Rattle.jvm_model.specs.Frames.{Ending, spent, Need, Move, goes, finishes, needs, stuck}
+use Rattle.jvm_model.specs.Frames.{Ending, spent, Need, Move, goes, finishes, needs, stuck, without_objects}
 use Rattle.jvm_model.specs.Steps.{step, supply}
 
 -- how a run ends, with the world that it leaves; it is stuck where a state meets what verification excludes
@@ -32,7 +32,7 @@ on_move oracle files stuck rest = has_stuck
 
 -- a run of so many instructions and callbacks
 unfoldable pub run : Oracle → Files → ℕ → State → Run
-run oracle files zero s = ended (spent Instructions) s.shared.world
+run oracle files zero s = ended (spent Instructions) (without_objects s.shared.world)
 run oracle files (suc left) s = on_move oracle files (end_of oracle (step s)) (run oracle files left)
 
 -- another program answers alike what a plan asks

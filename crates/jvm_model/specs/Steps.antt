@@ -13,7 +13,7 @@ use Rattle.jvm_model.specs.declared.action.Action.{Action}
 use Rattle.jvm_model.specs.Plans.{Plan, ends, asks, code_of}
 use Rattle.jvm_model.specs.Actions.{action_of}
 use Rattle.jvm_model.specs.Working.{Work, work, Step, next, jump, throw, worked}
-use Rattle.jvm_model.specs.States.{MethodFrame, NativeFrame, Frame, of_method, of_native, forwarding, adapting, initialising, Shared, State, state, with_next, at_pc}
+use Rattle.jvm_model.specs.States.{MethodFrame, NativeFrame, Frame, of_method, of_native, forwarding, adapting, initialising, Shared, State, state, with_world, with_next, at_pc}
 use Rattle.jvm_model.specs.Calls.{virtual_callee}
 use Rattle.jvm_model.specs.Frames.{Move, goes, stuck, raised, attempted, unwound, goes_on}
 use Rattle.jvm_model.specs.Arrays.{narrowed_by}
@@ -53,7 +53,7 @@ class_at (Some o) = class_of o
 
 -- what an effect leads to, where a frame stands before others
 abbrev pub effected : List Frame → Shared → MethodFrame → Effect → Plan Move
-effected frames s f (results t v g) = goes_on g frames t v
+effected frames s f (results w v g) = goes_on g frames (with_world w s) v
 effected frames s f (jumps pc g) = moved frames s pc g
 effected frames s f (enters callee slots g) = call_begun (delivered (of_method g ∷ frames)) (of_method g ∷ frames) s slots callee
 effected frames s f (statically target slots g) = static_begun_of (delivered (of_method g ∷ frames)) (of_method g ∷ frames) s slots target
@@ -64,7 +64,7 @@ effected frames s f (rethrows o) = unwound (of_method f ∷ frames) s o (class_a
 
 abbrev pub by_action : List Frame → Shared → MethodFrame → OpRow → Line → Option Action → Plan Move
 by_action frames s f row line (Some action) = stayed frames s f (worked action (work f.locals f.operands))
-by_action frames s f row line None = attempted (of_method f ∷ frames) s (effect row.operation line f s) (effected frames s f)
+by_action frames s f row line None = attempted (of_method f ∷ frames) s (effect row.operation line f s.world) (effected frames s f)
 
 abbrev pub by_row : List Frame → Shared → MethodFrame → Line → Option OpRow → Plan Move
 by_row frames s f line None = ends stuck

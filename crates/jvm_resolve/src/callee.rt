@@ -87,7 +87,7 @@ fn is_static_target<P: Lookups>(_program: &P, target: Target<'_>) -> bool
 
 /// What a reference resolves to, which isn't nothing.
 #[tactic(auto, using(crate::proofs::Ends::ended))]
-fn resolved<'a, P: Lookups>(
+pub fn resolved<'a, P: Lookups>(
     alloc: Global,
     program: &'a P,
     method: MemberView<'_>,
@@ -105,7 +105,7 @@ fn resolved<'a, P: Lookups>(
 }
 
 /// A target that is static exactly where one is wanted.
-fn if_static<'a, P: Lookups>(
+pub fn if_static<'a, P: Lookups>(
     program: &P,
     wanted: bool,
     target: Target<'a>,
@@ -148,7 +148,7 @@ pub fn receiver<P: Lookups>(_program: &P, arguments: &[Slot]) -> Result<u32, Sto
 
 /// Refuses an object that isn't of the class that a reference names.
 #[tactic(auto, using(crate::proofs::Ends::ended))]
-fn checked<P: Lookups>(program: &P, owner: &[u8], object: &Object) -> Result<(), Stop>
+pub fn checked<P: Lookups>(program: &P, owner: &[u8], object: &Object) -> Result<(), Stop>
     ensures { EndsAs (λ done. tt) result (end_of (P.oracle program.now) (checked owner.now
         (renamed_object (P.class_name program.now) (P.site_origin program.now) object.now))) }
 {
@@ -221,7 +221,7 @@ fn selected<P: Lookups>(
 }
 
 /// The object of a number.
-fn object_of<P: Lookups>(world: &World<P>, number: u32) -> Result<&Object, Stop>
+pub fn object_of<P: Lookups>(world: &World<P>, number: u32) -> Result<&Object, Stop>
     ensures { EndsAs (λ o. renamed_object (P.class_name world.now.names) (P.site_origin world.now.names) o.now)
         result (end_of (P.oracle world.now.names) (object_of number world.now.world)) }
 {

@@ -10,7 +10,12 @@ mod lookups;
 mod stop;
 mod types;
 
-pub use callee::{Callee, callee_of, receiver, special_callee, static_target, virtual_callee};
+pub use callee::{
+    Callee, callee_of, checked, if_static, object_of, receiver, resolved, special_callee,
+    static_target, virtual_callee,
+};
 pub use lookups::{Lookups, OriginView, Target};
 pub use stop::Stop;
-pub use types::{class_of, is_assignable, is_instance, is_known, type_named, type_of};
+pub use types::{
+    array_form_of, class_of, is_assignable, is_instance, is_known, type_named, type_of,
+};

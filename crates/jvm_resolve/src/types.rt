@@ -148,7 +148,8 @@ fn letter_of(kind: ElementKind) -> u8
     }
 }
 
-fn array_form_of<P: Lookups>(program: &P, kind: ArrayKind) -> TypeForm<'_>
+/// The type of the arrays of a kind.
+pub fn array_form_of<P: Lookups>(program: &P, kind: ArrayKind) -> TypeForm<'_>
     ensures { type_of_form result ≡ array_type (renamed_kind (P.class_name program.now) (kind_of kind)) }
 {
     match kind.base {

@@ -1,6 +1,6 @@
 -- A method that is called begins in a valid state.
 use Rattle.std.proofs.Common.{◌≡◌, Bool, true, false, cond, List, ◌∷◌, Option, Some, refl, sym, ap, ◌∙◌, subst}
-use Rattle.std.specs.Prelude.{◌&&◌, count_by, flat_map, nat_lt}
+use Rattle.std.specs.Prelude.{◌&&◌, flat_map, nat_lt}
 use Rattle.jvm_tables.specs.declared.instruction.ValueKind.{ValueKind}
 use Rattle.class_model.specs.declared.class_file.Class.{Class}
 use Rattle.class_model.specs.declared.class_file.Member.{Member}
@@ -27,7 +27,7 @@ use Rattle.native_model.specs.Worlds.{NamedHeap}
 use Rattle.jvm_model.specs.Plans.{ends, end_of}
 use Rattle.jvm_model.specs.Programs.{oracle, row_of_method}
 use Rattle.jvm_model.specs.States.{of_method, Shared, State, state}
-use Rattle.jvm_model.specs.Frames.{goes, runs_dry, is_counted, most_frames, first_locals, first_frame, started_by, started}
+use Rattle.jvm_model.specs.Frames.{goes, runs_dry, counted, most_frames, first_locals, first_frame, started_by, started}
 use Rattle.jvm_valid.specs.Values.{kinds_in, AreValues}
 use Rattle.jvm_valid.specs.Frames.{IsMethod, StandsIn}
 use Rattle.jvm_valid.specs.Valid.{IsValid}
@@ -94,4 +94,4 @@ each_call_begins program wanted s frames method xs class member code row verifie
     let valid : IsValid program wanted (state s (of_method (first_frame method row xs) ∷ frames)) =
     record { shared = shared; frames = (stands, await) } in
     subst (λ o. IsBegin program wanted (end_of (oracle program) (started_by frames s method xs o))) (sym has)
-    (begins_by program wanted s (state s (of_method (first_frame method row xs) ∷ frames)) (nat_lt (count_by is_counted frames) most_frames) valid)
+    (begins_by program wanted s (state s (of_method (first_frame method row xs) ∷ frames)) (nat_lt (counted frames) most_frames) valid)

@@ -1,18 +1,19 @@
 -- What the machine reads and changes in a heap, as the world of a body shows it.
-use Rattle.std.proofs.Common.{◌≡◌, ℕ, List, refl, sym, subst, ap, ◌∙◌}
-use Rattle.std.specs.Prelude.{Option, Some, None, IsSome, IfOk, OnErr, option_map, option_and_then, Result, Ok, Err}
+use Rattle.std.proofs.Common.{◌≡◌, ℕ, zero, suc, Bool, true, false, List, [], ◌∷◌, refl, sym, subst, ap, ◌∙◌, arith}
+use Rattle.std.specs.Prelude.{nat_lt, slice_get, if◌then◌else◌, length, Option, Some, None, IfOk, OnErr, option_map, option_and_then, Result, Ok, Err}
+use Rattle.std.proofs.lemmas.List.{length-map}
 use Rattle.class_model.specs.declared.identifiers.ClassId.{ClassId}
 use Rattle.class_model.specs.declared.identifiers.SiteId.{SiteId}
 use Rattle.jvm_heap.specs.declared.slot.Slot.{Slot}
 use Rattle.jvm_heap.specs.declared.fault.HeapFault.{HeapFault}
 use Rattle.jvm_heap.specs.Objects.{Object}
-use Rattle.jvm_heap.specs.Heaps.{Heap, object_at, slot_at, with_slot}
+use Rattle.jvm_heap.specs.Heaps.{Heap, object_at, slots_of, slot_at, set_slot, with_slot}
 use Rattle.jvm_heap.specs.Changes.{Makes}
 use Rattle.jvm_heap.specs.Renaming.{renamed, renamed_object, renamed_made}
 use Rattle.jvm_heap.proofs.Renamed.{heaps_renamed}
 use Rattle.native_model.specs.declared.fault.StepFault.{StepFault}
 use Rattle.native_model.specs.declared.native_end.NativeEnd.{NativeEnd}
-use Rattle.native_model.specs.Worlds.{Origin, NamedObject, NamedHeap, Surround, World, Placed, in_heap, seen}
+use Rattle.native_model.specs.Worlds.{Origin, NamedObject, NamedHeap, Surround, Placed, in_heap, seen}
 use Rattle.native_model.specs.Answers.{gives_made}
 use Rattle.native_model.specs.Ends.{named_world, end_of_making, Answers}
 use Rattle.native_model.proofs.Told.{looked, made_in, named}
@@ -20,6 +21,22 @@ use Rattle.native_model.proofs.Told.{looked, made_in, named}
 none_before : {A B : Type 0} (q : A → B) (o : Option A) → option_map q o ≡ None → o ≡ None
 none_before q None is = refl
 none_before q (Some a) is = cc
+
+no_place : {A : Type 0} (items : List A) (place : ℕ) → slice_get items place ≡ None → nat_lt place (length items) ≡ false
+no_place [] place none = grind arith
+no_place (a ∷ items) zero none = cc
+no_place (a ∷ items) (suc place) none = let behind : nat_lt place (length items) ≡ false = no_place items place none in grind arith
+
+none_set : (n place : ℕ) (slot : Slot) (h : Heap ClassId SiteId) (o : Option (Object ClassId SiteId)) → option_and_then (λ o. slice_get (slots_of o) place) o ≡ None → option_and_then (set_slot n place slot h) o ≡ None
+none_set n place slot h None none = refl
+none_set n place slot h (Some o) none = rw (no_place (slots_of o) place none) refl
+
+-- nothing is written where there is no slot
+pub not_written : (n place : ℕ) (slot : Slot) (h : Heap ClassId SiteId) → slot_at n place h ≡ None → with_slot n place slot h ≡ None
+unfolding slot_at with_slot
+not_written n place slot h none = none_set n place slot h (object_at n h) none
+
+pub ruleset unwritten = (not_written)
 
 module _ (f : ClassId → List ℕ) (g : SiteId → Origin) where
   number_renamed : (defined : Option (ℕ × Heap ClassId SiteId)) (r : Result ℕ HeapFault) (new : Heap ClassId SiteId) → IfOk r (λ number. defined ≡ Some (number, new)) → IfOk r (λ number. option_map (renamed_made f g) defined ≡ Some (number, renamed f g new))
@@ -58,6 +75,11 @@ module _ {N : Type 0} (class_name : N → ClassId → List ℕ) (site_origin : N
       subst (λ v. option_map (renamed_object (class_name v.names) (site_origin v.names)) found ≡ object_at number v.world.heap) is
       (ap (option_map (renamed_object (class_name n) (site_origin n))) there ∙ sym ((heaps_renamed (class_name n) (site_origin n)).object_at number h))
 
+  pub count_there : (count : ℕ) (h : Heap ClassId SiteId) (w : Placed N) → shown h ≡ w → count ≡ length h.objects → count ≡ length w.world.heap.objects
+  unfolding renamed
+  count_there count h w is counted =
+      subst (λ v. count ≡ length v.world.heap.objects) is (counted ∙ sym (length-map h.objects (renamed_object (class_name n) (site_origin n))))
+
   pub slot_there : (number place : ℕ) (h : Heap ClassId SiteId) (w : Placed N) → shown h ≡ w → slot_at number place w.world.heap ≡ slot_at number place h
   slot_there number place h w is =
       subst (λ v. slot_at number place v.world.heap ≡ slot_at number place h) is ((heaps_renamed (class_name n) (site_origin n)).slot_at number place h)
@@ -65,6 +87,12 @@ module _ {N : Type 0} (class_name : N → ClassId → List ℕ) (site_origin : N
   pub slot_written : (number place : ℕ) (slot : Slot) (old new : Heap ClassId SiteId) (w : Placed N) → shown old ≡ w → with_slot number place slot old ≡ Some new → with_slot number place slot w.world.heap ≡ Some (by_name new)
   slot_written number place slot old new w is change =
       subst (λ v. with_slot number place slot v.world.heap ≡ Some (by_name new)) is
+      ((heaps_renamed (class_name n) (site_origin n)).with_slot number place slot old ∙ ap (option_map (renamed (class_name n) (site_origin n))) change)
+
+  pub slot_tried : (number place : ℕ) (slot : Slot) (done : Bool) (old new : Heap ClassId SiteId) (w : Placed N) → shown old ≡ w → with_slot number place slot old ≡ (if done then Some new else None) → with_slot number place slot w.world.heap ≡ (if done then Some (by_name new) else None)
+  slot_tried number place slot true old new w is change = slot_written number place slot old new w is change
+  slot_tried number place slot false old new w is change =
+      subst (λ v. with_slot number place slot v.world.heap ≡ None) is
       ((heaps_renamed (class_name n) (site_origin n)).with_slot number place slot old ∙ ap (option_map (renamed (class_name n) (site_origin n))) change)
 
   -- what is told of an object by the names of its world

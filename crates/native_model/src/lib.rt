@@ -20,6 +20,7 @@ mod outside;
 mod place;
 mod progress;
 mod seen;
+mod slots;
 mod surround;
 mod throw;
 mod world;

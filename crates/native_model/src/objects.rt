@@ -1,8 +1,8 @@
 //! What the machine itself reads and changes in the world of a body.
 
-ghost use Rattle.std.specs.Prelude.{◌≡◌, Some, IsSome, option_map};
+ghost use Rattle.std.specs.Prelude.{◌≡◌, ◌≤◌, Some, IsSome, length, option_map};
 ghost use Rattle.std.specs.Option.{option_copied};
-ghost use Rattle.jvm_heap.specs.Heaps.{object_at, slot_at, with_slot, allocated, constant_text, box_of_int, box_of_long, box_of_boolean};
+ghost use Rattle.jvm_heap.specs.Heaps.{most_cells, object_at, slot_at, with_slot, allocated, constant_text, box_of_int, box_of_long, box_of_boolean};
 ghost use Rattle.jvm_heap.specs.Changes.{Makes};
 ghost use Rattle.jvm_heap.specs.Renaming.{renamed_object};
 ghost use Rattle.native_model.specs.Worlds.{in_heap};
@@ -33,6 +33,14 @@ impl<N: Naming> World<N> {
         ensures { result.now ≡ self.now.world.log }
     {
         self.log.lines()
+    }
+
+    /// How many objects there are.
+    pub fn count(&self) -> u32
+        ensures value { result ≡ length self.now.world.heap.objects }
+        ensures within { result ≤ most_cells }
+    {
+        self.heap.count()
     }
 
     /// The object of a number. `None` for null and for a number that no object has.

@@ -1,9 +1,10 @@
 //! What an object is, where it is of one kind.
 
-ghost use Rattle.std.specs.Prelude.{◌≡◌, ℕ, List, option_map};
+ghost use Rattle.std.specs.Prelude.{◌≡◌, ◌<◌, ℕ, List, IfSome, length, option_map};
 ghost use Rattle.std.specs.Option.{option_copied};
 ghost use Rattle.class_model.specs.declared.identifiers.ClassId.{ClassId};
 ghost use Rattle.class_model.specs.declared.identifiers.SiteId.{SiteId};
+ghost use Rattle.jvm_heap.specs.Objects.{cells_of};
 ghost use Rattle.jvm_heap.specs.Contents.{kind_of};
 ghost use Rattle.jvm_heap.specs.Renaming.{renamed_object, renamed_kind};
 ghost use Rattle.native_model.specs.Worlds.{Origin, as_text, as_int, as_long, as_boolean, as_builder, as_iterator, as_list, as_array, as_reference};
@@ -123,9 +124,10 @@ pub(crate) fn list_in(object: &Object) -> Option<(ClassId, &[u32])>
 }
 
 pub(crate) fn array_in(object: &Object) -> Option<(ArrayKind, &[Slot])>
-    ensures { (f : ClassId → List ℕ) (g : SiteId → Origin) →
+    ensures parts { (f : ClassId → List ℕ) (g : SiteId → Origin) →
         option_map (λ a. (renamed_kind f (kind_of a.0), a.1.now)) result
         ≡ as_array (renamed_object f g object.now) }
+    ensures few { IfSome result (λ a. length a.1.now < cells_of object.now) }
 {
     match object.content() {
         Content::Array { kind, elements } => Some((*kind, elements.as_slice())),

@@ -2,5 +2,5 @@ pub mod First
 pub mod Searching
 pub mod Digits
 pub mod Differences
-pub mod Dotted
+pub mod Spelled
 pub mod Thrown

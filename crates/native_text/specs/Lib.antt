@@ -1,3 +1,4 @@
+pub mod Spelling
 pub mod Found
 pub mod Searching
 pub mod Parsing

@@ -30,6 +30,7 @@ pub use builders::{
     append_char, append_text, append_truth, builder_length, builder_made, builder_text,
 };
 pub use comparing::{text_compare, text_hash};
+pub use names::{dotted, units_of_name};
 pub use numbers::{
     int_abs, int_greater, int_less, int_sum, long_abs, long_greater, long_less, long_sum,
 };
@@ -45,7 +46,7 @@ pub use strings::{
 };
 pub use texts::{
     append_number, boolean_box_text, int_box_text, int_text, long_box_text, text_of_char,
-    text_of_number, text_of_truth,
+    text_of_number, text_of_truth, units_of_ascii,
 };
 pub use throwables::{
     suppressed_added, throwable_cause, throwable_made, throwable_message, throwable_text,

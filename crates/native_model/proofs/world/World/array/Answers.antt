@@ -7,11 +7,11 @@ use Rattle.native_model.proofs.world.World.array.Goals as goal
 
 pub returns-in-Some-array_in : goal.returns-in-Some-array_in
 returns-in-Some-array_in g c =
-    ap (option_map (λ (a : ArrayKind (List ℕ) × List Slot). a.1)) (looked _ _ as_array _ _ _ _ _ _ _ (Some c.in-Some.object.now) _ (world_of c.self.view_is) c.in-Some.ensures.value (c.in-Some-array_in.ensures _ _))
+    ap (option_map (λ (a : ArrayKind (List ℕ) × List Slot). a.1)) (looked _ _ as_array _ _ _ _ _ _ _ (Some c.in-Some.object.now) _ (world_of c.self.view_is) c.in-Some.ensures.value (c.in-Some-array_in.ensures.parts _ _))
 
 pub returns-in-None-array_in : goal.returns-in-None-array_in
 returns-in-None-array_in g c =
-    ap (option_map (λ (a : ArrayKind (List ℕ) × List Slot). a.1)) (looked _ _ as_array _ _ _ _ _ _ _ (Some c.in-Some.object.now) _ (world_of c.self.view_is) c.in-Some.ensures.value (c.in-None-array_in.ensures _ _))
+    ap (option_map (λ (a : ArrayKind (List ℕ) × List Slot). a.1)) (looked _ _ as_array _ _ _ _ _ _ _ (Some c.in-Some.object.now) _ (world_of c.self.view_is) c.in-Some.ensures.value (c.in-None-array_in.ensures.parts _ _))
 
 pub returns-in-None : goal.returns-in-None
 returns-in-None g c =

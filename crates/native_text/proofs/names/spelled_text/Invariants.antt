@@ -1,11 +1,11 @@
 use Rattle.std.proofs.Common.{◌≡◌, ◌++◌, length}
 use Rattle.class_model.specs.ModifiedUtf8.{IsModifiedUtf8}
-use Rattle.native_model.specs.Texts.{dotted}
-use Rattle.native_text.proofs.names.dotted_text.Given as goal
+use Rattle.native_text.specs.Spelling.{spelled}
+use Rattle.native_text.proofs.names.spelled_text.Given as goal
 
 abbrev pub invariant-each : goal.invariant-each
 invariant-each l = record {
-  told : dotted l.name ≡ l.units.items ++ dotted l.rest;
+  told : spelled l.dots l.name ≡ l.units.items ++ spelled l.dots l.rest;
   text : IsModifiedUtf8 l.rest;
 }
 

@@ -1,0 +1,6 @@
+pub mod Names
+pub mod Handlers
+pub mod Stacks
+pub mod Frames
+pub mod Moves
+pub mod Changes
