@@ -4,3 +4,4 @@ pub mod Digits
 pub mod Differences
 pub mod Dotted
 pub mod Thrown
+pub mod Named

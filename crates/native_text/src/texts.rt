@@ -13,7 +13,8 @@ use jvm_heap::Units;
 use native_model::{Naming, NativeEnd, StepFault, Throw, World};
 use std::alloc::{AllocError, Global};
 
-fn units_of_ascii(alloc: Global, bytes: &[u8]) -> Result<Units, AllocError>
+/// Bytes as units.
+pub(crate) fn units_of_ascii(alloc: Global, bytes: &[u8]) -> Result<Units, AllocError>
     ensures { IfOk result (λ units. units ≡ bytes.now) }
 {
     let mut units = Vec::with_capacity(alloc, bytes.len())?;
