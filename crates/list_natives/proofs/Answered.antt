@@ -9,12 +9,12 @@ use Rattle.native_model.specs.Answers.{Answer, throws, is_true, or_mismatch}
 use Rattle.native_model.specs.Lists.{passed, last_or, number_in}
 use Rattle.list_natives.specs.Kept.{kept_of}
 
-slots_behind : (slots : List Slot) (at : ℕ) (slot : Slot) → slice_get slots at ≡ Some slot → drop at slots ≡ slot ∷ drop (suc at) slots
+pub slots_behind : (slots : List Slot) (at : ℕ) (slot : Slot) → slice_get slots at ≡ Some slot → drop at slots ≡ slot ∷ drop (suc at) slots
 slots_behind [] at slot is = cc
 slots_behind (s ∷ slots) zero slot is = let same : s ≡ slot = cc in ap (λ x. x ∷ slots) same
 slots_behind (s ∷ slots) (suc at) slot is = slots_behind slots at slot is
 
-none_behind : {A : Type 0} (xs : List A) (at : ℕ) → slice_get xs at ≡ None → drop at xs ≡ []
+pub none_behind : {A : Type 0} (xs : List A) (at : ℕ) → slice_get xs at ≡ None → drop at xs ≡ []
 none_behind [] zero is = refl
 none_behind [] (suc at) is = refl
 none_behind (x ∷ xs) zero is = cc

@@ -10,6 +10,7 @@ mod lists;
 mod passing;
 mod results;
 mod searching;
+mod telling;
 
 pub use iterators::{iterator_has_next, iterator_next, list_iterator};
 pub use lists::{
@@ -18,3 +19,4 @@ pub use lists::{
 };
 pub use passing::{list_each, list_filter, list_fold, list_map};
 pub use searching::{list_contains, list_index};
+pub use telling::list_text;

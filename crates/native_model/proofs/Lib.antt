@@ -4,3 +4,4 @@ pub mod Files
 mod Listing
 mod Parts
 mod Putting
+pub mod Fronts

@@ -1,6 +1,7 @@
 //! The files of a task's dest.
 
-ghost use Rattle.std.specs.Prelude.{◌≡◌, ◌≤◌, [], nat_le, if◌then◌else◌, IfOk, OnOk, OnErr};
+ghost use Rattle.std.specs.Prelude.{◌≡◌, ◌≤◌, [], nat_eq, nat_le, if◌then◌else◌, IfOk, OnOk, OnErr};
+ghost use Rattle.std.specs.List.{list_any, starts_with};
 ghost use Rattle.std.specs.Option.{option_copied};
 ghost use Rattle.std.specs.FinMap.Entries as entries;
 ghost use Rattle.tree_value.specs.Trees.{path_cmp};
@@ -104,5 +105,17 @@ impl Dest {
         }
         self.insert(place, content)?;
         Ok(true)
+    }
+}
+
+impl Dest {
+    /// Whether the path of a file begins with some bytes. One look-up, since the files are in order.
+    pub fn has_front(&self, front: &Place) -> bool
+        ensures { result ≡ list_any (λ file. starts_with nat_eq file.0 front.now) self.now }
+    {
+        match self.files.range(front..).next() {
+            Some((place, _)) => place.as_slice().starts_with(front.as_slice()),
+            None => false,
+        }
     }
 }

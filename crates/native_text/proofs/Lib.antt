@@ -4,3 +4,4 @@ pub mod Digits
 pub mod Differences
 pub mod Spelled
 pub mod Thrown
+pub mod Named

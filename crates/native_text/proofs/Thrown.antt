@@ -1,12 +1,11 @@
 -- The text of a throwable.
-use Rattle.std.proofs.Common.{◌≡◌, ℕ, List, ◌++◌, refl, sym, ap, ◌∙◌}
+use Rattle.std.proofs.Common.{◌≡◌, ℕ, ◌++◌, refl}
 use Rattle.std.specs.Prelude.{Option, Some, None, option_map, option_and_then}
 use Rattle.jvm_heap.specs.Objects.{throwable}
 use Rattle.jvm_heap.specs.Heaps.{object_at}
 use Rattle.native_model.specs.Worlds.{NamedObject, World, as_text, seen}
 use Rattle.native_model.specs.Texts.{dotted}
-use Rattle.native_model.specs.Thrown.{incompatible_change}
-use Rattle.native_model.specs.Answers.{Answer, throws, gives_text, or_mismatch}
+use Rattle.native_model.specs.Answers.{gives_text, or_mismatch}
 use Rattle.native_model.specs.Plain.{after_colon, throwable_told, throwable_text}
 use Rattle.native_text.specs.Found.{class_and_message, thrown_units}
 

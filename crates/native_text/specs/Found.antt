@@ -1,10 +1,11 @@
 -- What natives on texts find in the world before they make a text.
-use Rattle.std.specs.Prelude.{ℕ, List, ◌++◌, Option, Some, None, option_map, option_and_then, Result, Ok, Err}
+use Rattle.std.specs.Prelude.{ℕ, List, ◌++◌, codes, Option, Some, None, option_map, option_and_then, Result, Ok, Err}
 use Rattle.native_model.specs.declared.throw.Throw.{Throw}
 use Rattle.jvm_heap.specs.Objects.{throwable}
-use Rattle.native_model.specs.Texts.{dotted}
+use Rattle.jvm_heap.specs.Heaps.{object_at}
+use Rattle.native_model.specs.Texts.{dotted, hexadecimal}
 use Rattle.native_model.specs.Plain.{after_colon}
-use Rattle.native_model.specs.Worlds.{NamedObject, World, as_text, seen}
+use Rattle.native_model.specs.Worlds.{NamedObject, World, class_of, as_text, seen}
 use Rattle.native_model.specs.Answers.{Answer, throws, gives_text}
 use Rattle.native_model.specs.Ends.{thrown_of}
 
@@ -26,3 +27,7 @@ class_and_message _ = None
 abbrev pub thrown_units : ℕ → World → Option (List ℕ)
 thrown_units o w =
     option_map (λ t. dotted t.0 ++ after_colon (seen as_text t.1 w)) (seen class_and_message o w)
+
+-- what an object's text is
+abbrev pub object_units : ℕ → World → Option (List ℕ)
+object_units o w = option_map (λ object. dotted (class_of object) ++ codes "@" ++ hexadecimal o) (object_at o w.heap)

@@ -1,14 +1,15 @@
 //! Natives of texts, builders, boxes, numbers, throwables and other objects: one function each, whose clause says that it
 //! answers as `native_model` defines, over the world that is kept there.
 //!
-//! It stands on `native_model` and `jvm_heap`. What calls a native by its row is to stand above it; natives of lists are in
-//! `list_natives` beside it, and those of files aren't here yet.
+//! It stands on `native_model` and `jvm_heap`. What calls a native by its row stands above it; natives of lists are in
+//! `list_natives` beside it, and those of files in `os_natives`.
 #![tactic(auto)]
 
 mod asking;
 mod boxes;
 mod builders;
 mod comparing;
+mod described;
 mod found;
 mod names;
 mod numbers;
@@ -30,6 +31,7 @@ pub use builders::{
     append_char, append_text, append_truth, builder_length, builder_made, builder_text,
 };
 pub use comparing::{text_compare, text_hash};
+pub use described::object_text;
 pub use names::{dotted, units_of_name};
 pub use numbers::{
     int_abs, int_greater, int_less, int_sum, long_abs, long_greater, long_less, long_sum,

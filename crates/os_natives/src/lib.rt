@@ -12,8 +12,10 @@ mod plan;
 mod reading;
 mod referring;
 mod units;
+mod writing;
 
 pub use env::{env_get, env_now};
 pub use log::log_info;
 pub use reading::{fs_read, fs_size};
 pub use referring::{fs_dest, reference_sub};
+pub use writing::fs_write;

@@ -25,7 +25,7 @@ pub(crate) enum Wanted {
     Size,
 }
 
-fn file_fault(alloc: Global, units: &[u16]) -> Result<Plan, StepFault>
+pub(crate) fn file_fault(alloc: Global, units: &[u16]) -> Result<Plan, StepFault>
     ensures { IfOk result (λ plan. (w : worlds.World) → throws (file_fault units.now) ≡ planned plan w) }
 {
     let units = Units::from_slice(alloc, units)?;

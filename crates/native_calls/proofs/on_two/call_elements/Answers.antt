@@ -1,0 +1,6 @@
+use Rattle.std.proofs.Common.{arith}
+use Rattle.std.proofs.lemmas.Bool.Decides.{nat_tests}
+use Rattle.native_calls.proofs.on_two.call_elements.Goals as goal
+
+pub returns-in_default : goal.returns-in_default
+returns-in_default g c = absurd (grind (arith, nat_tests))
