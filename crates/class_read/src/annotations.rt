@@ -4,7 +4,7 @@ ghost use Rattle.std.specs.Prelude.{◌≡◌, ◌==◌, ◌≤◌, ◌-◌, cod
 ghost use Rattle.std.specs.List.{list_any};
 ghost use Rattle.class_text.specs.Readers.{many_at, counted_at};
 ghost use Rattle.class_text.specs.Elements.{is_constant_tag, pair_by, note_by, enum_at, tagged_by, element_at, note_at};
-ghost use Rattle.const_pool.specs.Faults.{Gives};
+ghost use Rattle.const_pool.specs.Faults.{GivesFront};
 
 use crate::item_lists::{ReadItem, counted_in};
 use crate::numbers::{u1_in, u2_in};
@@ -29,7 +29,7 @@ fn enum_in<'a>(
     end: u32,
     bytes: &'a [u8],
 ) -> Result<(Element, &'a [u8]), ClassFault>
-    ensures { Gives (λ r. (r.0, r.1.now)) result (enum_at pool.now end bytes.now) }
+    ensures { GivesFront result (enum_at pool.now end bytes.now) }
 {
     let (kind, rest) = index_in(pool, Target::FieldType, end, bytes)?;
     let (name, rest) = index_in(pool, Target::Text, end, rest)?;
@@ -47,7 +47,7 @@ fn element_in<'a>(
     end: u32,
     bytes: &'a [u8],
 ) -> Result<(Element, &'a [u8]), ClassFault>
-    ensures { Gives (λ r. (r.0, r.1.now)) result (element_at at pool.now depth end bytes.now) }
+    ensures { GivesFront result (element_at at pool.now depth end bytes.now) }
 {
     if depth == 0 {
         return Err(ClassFault::BadAttribute(at));
@@ -78,7 +78,8 @@ fn tagged_in<'a>(
     end: u32,
     bytes: &'a [u8],
 ) -> Result<(Element, &'a [u8]), ClassFault>
-    ensures { Gives (λ r. (r.0, r.1.now)) result (tagged_by (element_at at pool.now depth) pool.now place tag end bytes.now) }
+    ensures { GivesFront result
+        (tagged_by (element_at at pool.now depth) pool.now place tag end bytes.now) }
 {
     if is_constant_tag(tag) {
         let (index, rest) = index_in(pool, Target::ValueOf(tag), end, bytes)?;
@@ -113,7 +114,7 @@ fn note_in<'a>(
     end: u32,
     bytes: &'a [u8],
 ) -> Result<(Note, &'a [u8]), ClassFault>
-    ensures { Gives (λ r. (r.0, r.1.now)) result (note_by (element_at at pool.now depth) pool.now end bytes.now) }
+    ensures { GivesFront result (note_by (element_at at pool.now depth) pool.now end bytes.now) }
 {
     let (kind, rest) = index_in(pool, Target::FieldType, end, bytes)?;
     let (pairs, rest) = counted_pairs_in(alloc, pool, at, depth, end, rest)?;
@@ -130,7 +131,8 @@ fn counted_pairs_in<'a>(
     end: u32,
     bytes: &'a [u8],
 ) -> Result<(Pairs, &'a [u8]), ClassFault>
-    ensures { Gives (λ r. (r.0, r.1.now)) result (counted_at (pair_by (element_at at pool.now depth) pool.now) end bytes.now) }
+    ensures { GivesFront result
+        (counted_at (pair_by (element_at at pool.now depth) pool.now) end bytes.now) }
 {
     let (count, rest) = u2_in(end, bytes)?;
     pairs_in(alloc, pool, at, depth, count, end, rest)
@@ -147,7 +149,8 @@ fn pairs_in<'a>(
     end: u32,
     bytes: &'a [u8],
 ) -> Result<(Pairs, &'a [u8]), ClassFault>
-    ensures { Gives (λ r. (r.0, r.1.now)) result (many_at (pair_by (element_at at pool.now depth) pool.now) count end bytes.now) }
+    ensures { GivesFront result
+        (many_at (pair_by (element_at at pool.now depth) pool.now) count end bytes.now) }
 {
     let mut items = Items::new(alloc);
     let mut rest = bytes;
@@ -173,7 +176,7 @@ fn pair_in<'a>(
     end: u32,
     bytes: &'a [u8],
 ) -> Result<(Pair, &'a [u8]), ClassFault>
-    ensures { Gives (λ r. (r.0, r.1.now)) result (pair_by (element_at at pool.now depth) pool.now end bytes.now) }
+    ensures { GivesFront result (pair_by (element_at at pool.now depth) pool.now end bytes.now) }
 {
     let (name, rest) = index_in(pool, Target::Text, end, bytes)?;
     let (value, rest) = element_in(alloc, pool, at, depth, end, rest)?;
@@ -190,7 +193,7 @@ fn counted_elements_in<'a>(
     end: u32,
     bytes: &'a [u8],
 ) -> Result<(Elements, &'a [u8]), ClassFault>
-    ensures { Gives (λ r. (r.0, r.1.now)) result (counted_at (element_at at pool.now depth) end bytes.now) }
+    ensures { GivesFront result (counted_at (element_at at pool.now depth) end bytes.now) }
 {
     let (count, rest) = u2_in(end, bytes)?;
     elements_in(alloc, pool, at, depth, count, end, rest)
@@ -207,7 +210,7 @@ fn elements_in<'a>(
     end: u32,
     bytes: &'a [u8],
 ) -> Result<(Elements, &'a [u8]), ClassFault>
-    ensures { Gives (λ r. (r.0, r.1.now)) result (many_at (element_at at pool.now depth) count end bytes.now) }
+    ensures { GivesFront result (many_at (element_at at pool.now depth) count end bytes.now) }
 {
     let mut items = Items::new(alloc);
     let mut rest = bytes;
@@ -232,7 +235,7 @@ fn annotation_in<'a>(
     end: u32,
     bytes: &'a [u8],
 ) -> Result<(Note, &'a [u8]), ClassFault>
-    ensures { Gives (λ r. (r.0, r.1.now)) result (note_at at pool.now end bytes.now) }
+    ensures { GivesFront result (note_at at pool.now end bytes.now) }
 {
     note_in(alloc, pool, at, GREATEST_DEPTH, end, bytes)
 }
@@ -265,7 +268,7 @@ pub(crate) fn annotations_in<'a>(
     end: u32,
     bytes: &'a [u8],
 ) -> Result<(Notes, &'a [u8]), ClassFault>
-    ensures { Gives (λ r. (r.0, r.1.now)) result (counted_at (note_at at pool.now) end bytes.now) }
+    ensures { GivesFront result (counted_at (note_at at pool.now) end bytes.now) }
 {
     counted_in(alloc, &AnnotationReader { alloc, pool, at }, end, bytes)
 }

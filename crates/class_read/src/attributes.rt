@@ -6,7 +6,7 @@ ghost use Rattle.class_text.specs.Reading.{Reading};
 ghost use Rattle.class_text.specs.Readers.{many_after, whole};
 ghost use Rattle.class_text.specs.Attributes.{handler_at, bootstrap_at, other_at, stack_map_at, constant_value_at, bootstraps_at, annotations_at, code_content_at, named_at, code_attribute_at, code_attributes_at, code_bytes_at, code_at, own_content_at, content_at, attribute_at, attributes_at};
 ghost use Rattle.class_model.specs.Attributes.{in_code};
-ghost use Rattle.const_pool.specs.Faults.{Gives};
+ghost use Rattle.const_pool.specs.Faults.{Gives, GivesFront};
 ghost use Rattle.class_read.specs.Stands.{stand_of, Keeps};
 
 use crate::annotations::annotations_in;
@@ -27,7 +27,7 @@ fn handler_in<'a>(
     end: u32,
     bytes: &'a [u8],
 ) -> Result<(Handler, &'a [u8]), ClassFault>
-    ensures { Gives (λ r. (r.0, r.1.now)) result (handler_at pool.now end bytes.now) }
+    ensures { GivesFront result (handler_at pool.now end bytes.now) }
 {
     let (start, rest) = u2_in(end, bytes)?;
     let (stop, rest) = u2_in(end, rest)?;
@@ -67,7 +67,7 @@ fn bootstrap_in<'a>(
     end: u32,
     bytes: &'a [u8],
 ) -> Result<(Bootstrap, &'a [u8]), ClassFault>
-    ensures { Gives (λ r. (r.0, r.1.now)) result (bootstrap_at pool.now end bytes.now) }
+    ensures { GivesFront result (bootstrap_at pool.now end bytes.now) }
 {
     let (handle, rest) = index_in(pool, Target::Handle, end, bytes)?;
     let loadable = IndexReader {
@@ -105,7 +105,7 @@ fn other_in(
     end: u32,
     bytes: &[u8],
 ) -> Result<(Attribute, &[u8]), ClassFault>
-    ensures { Gives (λ r. (r.0, r.1.now)) result (other_at name end bytes.now) }
+    ensures { GivesFront result (other_at name end bytes.now) }
 {
     let (content, rest) = bytes.split_at(bytes.len());
     let content = Items::from_slice(alloc, content)?;
@@ -124,7 +124,7 @@ fn stack_map_in<'a>(
     end: u32,
     bytes: &'a [u8],
 ) -> Result<(Attribute, &'a [u8]), ClassFault>
-    ensures { Gives (λ r. (r.0, r.1.now)) result (stack_map_at pool.now name end bytes.now) }
+    ensures { GivesFront result (stack_map_at pool.now name end bytes.now) }
 {
     let (frames, rest) = frames_in(alloc, pool, end, bytes)?;
     Ok((Attribute::StackMap { name, frames }, rest))
@@ -138,7 +138,7 @@ fn constant_value_in<'a>(
     end: u32,
     bytes: &'a [u8],
 ) -> Result<(Attribute, &'a [u8]), ClassFault>
-    ensures { Gives (λ r. (r.0, r.1.now)) result (constant_value_at pool.now descriptor.now name end bytes.now) }
+    ensures { GivesFront result (constant_value_at pool.now descriptor.now name end bytes.now) }
 {
     let (value, rest) = index_in(pool, Target::ValueFor(descriptor), end, bytes)?;
     Ok((Attribute::ConstantValue { name, value }, rest))
@@ -152,7 +152,7 @@ fn bootstrap_methods_in<'a>(
     end: u32,
     bytes: &'a [u8],
 ) -> Result<(Attribute, &'a [u8]), ClassFault>
-    ensures { Gives (λ r. (r.0, r.1.now)) result (bootstraps_at pool.now name end bytes.now) }
+    ensures { GivesFront result (bootstraps_at pool.now name end bytes.now) }
 {
     let (entries, rest) = counted_in(alloc, &BootstrapReader { alloc, pool }, end, bytes)?;
     Ok((Attribute::Bootstrap { name, entries }, rest))
@@ -168,7 +168,7 @@ fn visible_annotations_in<'a>(
     end: u32,
     bytes: &'a [u8],
 ) -> Result<(Attribute, &'a [u8]), ClassFault>
-    ensures { Gives (λ r. (r.0, r.1.now)) result (annotations_at pool.now name at end bytes.now) }
+    ensures { GivesFront result (annotations_at pool.now name at end bytes.now) }
 {
     let (list, rest) = annotations_in(alloc, pool, at, end, bytes)?;
     Ok((Attribute::Annotations { name, list }, rest))
@@ -190,7 +190,7 @@ fn code_content_in<'a>(
     end: u32,
     bytes: &'a [u8],
 ) -> Result<(Attribute, &'a [u8]), ClassFault>
-    ensures { Gives (λ r. (r.0, r.1.now)) result (code_content_at pool.now name at end bytes.now) }
+    ensures { GivesFront result (code_content_at pool.now name at end bytes.now) }
 {
     if is_named(pool.as_pool().text_or_empty(name), STACK_MAP_TABLE_NAME) {
         return stack_map_in(alloc, pool, name, end, bytes);
@@ -205,7 +205,8 @@ fn whole<'a>(
     rest: &'a [u8],
     read: Result<(Attribute, &[u8]), ClassFault>,
 ) -> Result<(Attribute, &'a [u8]), ClassFault>
-    ensures { (reading : Reading Attribute) (stop : ℕ) → Gives (λ r. (r.0, r.1.now)) read.entry reading → Gives (λ r. (r.0, r.1.now)) result (whole at stop rest.now reading) }
+    ensures { (reading : Reading Attribute) (stop : ℕ) → GivesFront read.entry reading
+        → GivesFront result (whole at stop rest.now reading) }
 {
     match read {
         Ok((attribute, left)) => {
@@ -231,7 +232,8 @@ fn named_in<'a>(
     bytes: &'a [u8],
 ) -> Result<(u16, &'a [u8]), ClassFault>
     requires { Keeps pool.now (stand_of stand) found.now }
-    ensures { Gives (λ r. (r.0, r.1.now)) result (named_at pool.now (stand_of stand.entry) barred found.now.list end bytes.now) }
+    ensures { GivesFront result
+        (named_at pool.now (stand_of stand.entry) barred found.now.list end bytes.now) }
 {
     let (name, rest) = index_in(pool, Target::Text, end, bytes)?;
     let text = pool.as_pool().text_or_empty(name);
@@ -253,7 +255,7 @@ fn code_attribute_in<'a>(
     bytes: &'a [u8],
 ) -> Result<(Attribute, &'a [u8]), ClassFault>
     requires { Keeps pool.now in_code found.now }
-    ensures { Gives (λ r. (r.0, r.1.now)) result (code_attribute_at pool.now found.now.list end bytes.now) }
+    ensures { GivesFront result (code_attribute_at pool.now found.now.list end bytes.now) }
 {
     let at = offset_of(end, bytes);
     let (name, rest) = named_in(pool, Stand::Code, false, found, end, bytes)?;
@@ -271,7 +273,7 @@ fn some_code_attributes_in<'a>(
     end: u32,
     bytes: &'a [u8],
 ) -> Result<(Attributes, &'a [u8]), ClassFault>
-    ensures { Gives (λ r. (r.0, r.1.now)) result (many_after (code_attribute_at pool.now) [] count end bytes.now) }
+    ensures { GivesFront result (many_after (code_attribute_at pool.now) [] count end bytes.now) }
 {
     let mut found = SeenAttributes::new(alloc, count, bytes)?;
     let mut rest = bytes;
@@ -294,7 +296,7 @@ fn code_attributes_in<'a>(
     end: u32,
     bytes: &'a [u8],
 ) -> Result<(Attributes, &'a [u8]), ClassFault>
-    ensures { Gives (λ r. (r.0, r.1.now)) result (code_attributes_at pool.now end bytes.now) }
+    ensures { GivesFront result (code_attributes_at pool.now end bytes.now) }
 {
     let (count, rest) = u2_in(end, bytes)?;
     some_code_attributes_in(alloc, pool, count, end, rest)
@@ -325,7 +327,7 @@ fn code_in<'a>(
     end: u32,
     bytes: &'a [u8],
 ) -> Result<(Attribute, &'a [u8]), ClassFault>
-    ensures { Gives (λ r. (r.0, r.1.now)) result (code_at pool.now name at end bytes.now) }
+    ensures { GivesFront result (code_at pool.now name at end bytes.now) }
 {
     let (max_stack, rest) = u2_in(end, bytes)?;
     let (max_locals, rest) = u2_in(end, rest)?;
@@ -353,7 +355,8 @@ fn own_content_in<'a>(
     end: u32,
     bytes: &'a [u8],
 ) -> Result<(Attribute, &'a [u8]), ClassFault>
-    ensures { Gives (λ r. (r.0, r.1.now)) result (own_content_at pool.now (stand_of stand.entry) name at end bytes.now) }
+    ensures { GivesFront result
+        (own_content_at pool.now (stand_of stand.entry) name at end bytes.now) }
 {
     match stand {
         Stand::Class => bootstrap_methods_in(alloc, pool, name, end, bytes),
@@ -374,7 +377,7 @@ fn content_in<'a>(
     end: u32,
     bytes: &'a [u8],
 ) -> Result<(Attribute, &'a [u8]), ClassFault>
-    ensures { Gives (λ r. (r.0, r.1.now)) result (content_at pool.now (stand_of stand.entry) name at end bytes.now) }
+    ensures { GivesFront result (content_at pool.now (stand_of stand.entry) name at end bytes.now) }
 {
     let text = pool.as_pool().text_or_empty(name);
     if is_named(text, own_name(stand)) {
@@ -397,7 +400,8 @@ fn attribute_in<'a>(
     bytes: &'a [u8],
 ) -> Result<(Attribute, &'a [u8]), ClassFault>
     requires { Keeps pool.now (stand_of stand) found.now }
-    ensures { Gives (λ r. (r.0, r.1.now)) result (attribute_at pool.now (stand_of stand.entry) barred found.now.list end bytes.now) }
+    ensures { GivesFront result
+        (attribute_at pool.now (stand_of stand.entry) barred found.now.list end bytes.now) }
 {
     let at = offset_of(end, bytes);
     let (name, rest) = named_in(pool, stand, barred, found, end, bytes)?;
@@ -417,7 +421,8 @@ fn some_attributes_in<'a>(
     end: u32,
     bytes: &'a [u8],
 ) -> Result<(Attributes, &'a [u8]), ClassFault>
-    ensures { Gives (λ r. (r.0, r.1.now)) result (many_after (attribute_at pool.now (stand_of stand.entry) barred) [] count end bytes.now) }
+    ensures { GivesFront result
+        (many_after (attribute_at pool.now (stand_of stand.entry) barred) [] count end bytes.now) }
 {
     let mut found = SeenAttributes::new(alloc, count, bytes)?;
     let mut rest = bytes;
@@ -443,7 +448,8 @@ pub(crate) fn attributes_in<'a>(
     end: u32,
     bytes: &'a [u8],
 ) -> Result<(Attributes, &'a [u8]), ClassFault>
-    ensures { Gives (λ r. (r.0, r.1.now)) result (attributes_at pool.now (stand_of stand.entry) barred end bytes.now) }
+    ensures { GivesFront result
+        (attributes_at pool.now (stand_of stand.entry) barred end bytes.now) }
 {
     let (count, rest) = u2_in(end, bytes)?;
     some_attributes_in(alloc, pool, stand, barred, count, end, rest)

@@ -7,7 +7,7 @@ ghost use Rattle.class_model.specs.Spelling as spelling;
 ghost use Rattle.class_text.specs.Pool.{pool_at};
 ghost use Rattle.class_text.specs.Classes.{minor_at, major_at, behind_pool_at, class_at_front, class_of};
 ghost use Rattle.class_text.specs.Meanings.{IsMeant};
-ghost use Rattle.const_pool.specs.Faults.{Gives, IsOf, Fails, IsOkUnlessMemory};
+ghost use Rattle.const_pool.specs.Faults.{Gives, GivesFront, IsOf, Fails, IsOkUnlessMemory};
 
 use crate::attributes::attributes_in;
 use crate::item_lists::counted_in;
@@ -23,7 +23,7 @@ use std::alloc::Global;
 /// The magic and the minor version.
 #[tactic(auto, unfolding(class_text::specs::Classes::minor_at))]
 fn minor_in(end: u32, bytes: &[u8]) -> Result<(u16, &[u8]), ClassFault>
-    ensures { Gives (λ r. (r.0, r.1.now)) result (minor_at end bytes.now) }
+    ensures { GivesFront result (minor_at end bytes.now) }
 {
     let (magic, rest) = u4_in(end, bytes)?;
     if magic != MAGIC {
@@ -35,7 +35,7 @@ fn minor_in(end: u32, bytes: &[u8]) -> Result<(u16, &[u8]), ClassFault>
 /// The major version.
 #[tactic(auto, unfolding(class_text::specs::Classes::major_at))]
 fn major_in(end: u32, bytes: &[u8]) -> Result<(u16, &[u8]), ClassFault>
-    ensures { Gives (λ r. (r.0, r.1.now)) result (major_at end bytes.now) }
+    ensures { GivesFront result (major_at end bytes.now) }
 {
     let (major, rest) = u2_in(end, bytes)?;
     if major < OLDEST_MAJOR {
@@ -51,7 +51,7 @@ fn major_in(end: u32, bytes: &[u8]) -> Result<(u16, &[u8]), ClassFault>
 fn pool_in(alloc: Global, file: &[u8], at: u32) -> Result<(JudgedPool, &[u8]), ClassFault>
     requires small { length file.now < 2 ^ 32 }
     requires within { at ≤ length file.now }
-    ensures { Gives (λ r. (r.0, r.1.now)) result (pool_at (length file.now) (drop at file.now)) }
+    ensures { GivesFront result (pool_at (length file.now) (drop at file.now)) }
 {
     let (pool, next) = read_pool(alloc, file, at)?;
     let (_, rest) = file.split_at(next as usize);
@@ -68,7 +68,7 @@ fn behind_pool_in(
     end: u32,
     bytes: &[u8],
 ) -> Result<(Class, &[u8]), ClassFault>
-    ensures { Gives (λ r. (r.0, r.1.now)) result (behind_pool_at minor major pool end bytes.now) }
+    ensures { GivesFront result (behind_pool_at minor major pool end bytes.now) }
 {
     let (flags, rest) = u2_in(end, bytes)?;
     let (this_class, rest) = index_in(&pool, Target::PlainClass, end, rest)?;
@@ -100,7 +100,7 @@ fn behind_pool_in(
 #[tactic(auto, unfolding(class_text::specs::Classes::class_at_front))]
 fn class_in(alloc: Global, file: &[u8]) -> Result<(Class, &[u8]), ClassFault>
     requires { length file.now < 2 ^ 32 }
-    ensures { Gives (λ r. (r.0, r.1.now)) result (class_at_front (length file.now) file.now) }
+    ensures { GivesFront result (class_at_front (length file.now) file.now) }
 {
     let end = file.len() as u32;
     let (minor, rest) = minor_in(end, file)?;
@@ -133,13 +133,15 @@ pub fn read_class(alloc: Global, bytes: &[u8]) -> Result<Class, ClassFault>
     // What is read is shaped, and the bytes are its text.
     ensures found { IfOk result (λ c. Shaped c × (bytes.now ≡ spelling.class c)) }
     // The text of a shaped class is read as this class.
-    ensures only { (c : Class) → Shaped c → bytes.now ≡ spelling.class c → IsOkUnlessMemory (λ x. x ≡ c) result }
+    ensures only { (c : Class) → Shaped c → bytes.now ≡ spelling.class c
+        → IsOkUnlessMemory (λ x. x ≡ c) result }
     // A refusal is the first bad place.
     ensures fault { IfErr result (λ e. Fails e (class_of bytes.now)) }
     // It says what stands there.
     ensures says { IfErr result (λ e. IsOf (IsMeant bytes.now) e) }
     // A text has at most one class.
-    ensures one { (c d : Class) → Shaped c → Shaped d → bytes.now ≡ spelling.class c → bytes.now ≡ spelling.class d → c ≡ d }
+    ensures one { (c d : Class) → Shaped c → Shaped d → bytes.now ≡ spelling.class c
+        → bytes.now ≡ spelling.class d → c ≡ d }
 {
     whole_class_in(alloc, bytes)
 }

@@ -3,7 +3,7 @@
 ghost use Rattle.std.specs.Prelude.{◌≡◌, [], ◌<◌, ◌-◌, Ok, Err};
 ghost use Rattle.class_text.specs.Readers.{counted_at};
 ghost use Rattle.class_text.specs.Frames.{typed_at, frame_type_at, with_item_at, with_locals_at, full_at, behind_delta_at, framed_at, frame_at};
-ghost use Rattle.const_pool.specs.Faults.{Gives};
+ghost use Rattle.const_pool.specs.Faults.{GivesFront};
 
 use crate::item_lists::{ReadItem, counted_in, many_in};
 use crate::numbers::{u1_in, u2_in};
@@ -26,7 +26,7 @@ fn typed_in<'a>(
     end: u32,
     bytes: &'a [u8],
 ) -> Result<(FrameType, &'a [u8]), ClassFault>
-    ensures { Gives (λ r. (r.0, r.1.now)) result (typed_at pool.now at tag end bytes.now) }
+    ensures { GivesFront result (typed_at pool.now at tag end bytes.now) }
 {
     if tag < OBJECT_TAG {
         return Ok((FrameType { tag, index: 0 }, bytes));
@@ -48,7 +48,7 @@ fn frame_type_in<'a>(
     end: u32,
     bytes: &'a [u8],
 ) -> Result<(FrameType, &'a [u8]), ClassFault>
-    ensures { Gives (λ r. (r.0, r.1.now)) result (frame_type_at pool.now end bytes.now) }
+    ensures { GivesFront result (frame_type_at pool.now end bytes.now) }
 {
     let (tag, rest) = u1_in(end, bytes)?;
     typed_in(pool, offset_of(end, bytes), tag, end, rest)
@@ -82,7 +82,7 @@ fn with_item_in<'a>(
     end: u32,
     bytes: &'a [u8],
 ) -> Result<(StackFrame, &'a [u8]), ClassFault>
-    ensures { Gives (λ r. (r.0, r.1.now)) result (with_item_at pool.now tag delta end bytes.now) }
+    ensures { GivesFront result (with_item_at pool.now tag delta end bytes.now) }
 {
     let (stack, rest) = many_in(alloc, &TypeReader { pool }, 1, end, bytes)?;
     let locals = Items::new(alloc);
@@ -106,7 +106,7 @@ fn with_locals_in<'a>(
     end: u32,
     bytes: &'a [u8],
 ) -> Result<(StackFrame, &'a [u8]), ClassFault>
-    ensures { Gives (λ r. (r.0, r.1.now)) result (with_locals_at pool.now tag delta many end bytes.now) }
+    ensures { GivesFront result (with_locals_at pool.now tag delta many end bytes.now) }
 {
     let (locals, rest) = many_in(alloc, &TypeReader { pool }, many, end, bytes)?;
     let stack = Items::new(alloc);
@@ -129,7 +129,7 @@ fn full_in<'a>(
     end: u32,
     bytes: &'a [u8],
 ) -> Result<(StackFrame, &'a [u8]), ClassFault>
-    ensures { Gives (λ r. (r.0, r.1.now)) result (full_at pool.now tag delta end bytes.now) }
+    ensures { GivesFront result (full_at pool.now tag delta end bytes.now) }
 {
     let (locals, rest) = counted_in(alloc, &TypeReader { pool }, end, bytes)?;
     let (stack, rest) = counted_in(alloc, &TypeReader { pool }, end, rest)?;
@@ -163,7 +163,7 @@ fn behind_delta_in<'a>(
     end: u32,
     bytes: &'a [u8],
 ) -> Result<(StackFrame, &'a [u8]), ClassFault>
-    ensures { Gives (λ r. (r.0, r.1.now)) result (behind_delta_at pool.now tag delta end bytes.now) }
+    ensures { GivesFront result (behind_delta_at pool.now tag delta end bytes.now) }
 {
     if tag == SAME_LOCALS_1_EXTENDED_TAG {
         return with_item_in(alloc, pool, tag, delta, end, bytes);
@@ -188,7 +188,7 @@ fn framed_in<'a>(
     end: u32,
     bytes: &'a [u8],
 ) -> Result<(StackFrame, &'a [u8]), ClassFault>
-    ensures { Gives (λ r. (r.0, r.1.now)) result (framed_at pool.now at tag end bytes.now) }
+    ensures { GivesFront result (framed_at pool.now at tag end bytes.now) }
 {
     if tag < SAME_LOCALS_1_TAG {
         return Ok((empty_frame(alloc, tag, u16::from(tag)), bytes));
@@ -211,7 +211,7 @@ fn frame_in<'a>(
     end: u32,
     bytes: &'a [u8],
 ) -> Result<(StackFrame, &'a [u8]), ClassFault>
-    ensures { Gives (λ r. (r.0, r.1.now)) result (frame_at pool.now end bytes.now) }
+    ensures { GivesFront result (frame_at pool.now end bytes.now) }
 {
     let (tag, rest) = u1_in(end, bytes)?;
     framed_in(alloc, pool, offset_of(end, bytes), tag, end, rest)
@@ -243,7 +243,7 @@ pub(crate) fn frames_in<'a>(
     end: u32,
     bytes: &'a [u8],
 ) -> Result<(StackFrames, &'a [u8]), ClassFault>
-    ensures { Gives (λ r. (r.0, r.1.now)) result (counted_at (frame_at pool.now) end bytes.now) }
+    ensures { GivesFront result (counted_at (frame_at pool.now) end bytes.now) }
 {
     counted_in(alloc, &FrameReader { alloc, pool }, end, bytes)
 }

@@ -1,7 +1,7 @@
 //! Lists of items, each of which is read by itself.
 
 ghost use Rattle.class_text.specs.Readers.{Reader, many_at, counted_at};
-ghost use Rattle.const_pool.specs.Faults.{Gives};
+ghost use Rattle.const_pool.specs.Faults.{GivesFront};
 
 use crate::numbers::u2_in;
 use const_pool::ClassFault;
@@ -16,7 +16,7 @@ pub(crate) trait ReadItem {
 
     /// The item at the front of bytes that go on to an end.
     fn read<'a>(&self, end: u32, bytes: &'a [u8]) -> Result<(Self::Item, &'a [u8]), ClassFault>
-        ensures { Gives (λ r. (r.0, r.1.now)) result (one self.now end bytes.now) };
+        ensures { GivesFront result (one self.now end bytes.now) };
 }
 
 /// So many items.
@@ -27,7 +27,7 @@ pub(crate) fn many_in<'a, R: ReadItem>(
     end: u32,
     bytes: &'a [u8],
 ) -> Result<(Items<R::Item>, &'a [u8]), ClassFault>
-    ensures { Gives (λ r. (r.0, r.1.now)) result (many_at (R.one reader.now) count end bytes.now) }
+    ensures { GivesFront result (many_at (R.one reader.now) count end bytes.now) }
 {
     let mut items = Items::new(alloc);
     let mut rest = bytes;
@@ -51,7 +51,7 @@ pub(crate) fn counted_in<'a, R: ReadItem>(
     end: u32,
     bytes: &'a [u8],
 ) -> Result<(Items<R::Item>, &'a [u8]), ClassFault>
-    ensures { Gives (λ r. (r.0, r.1.now)) result (counted_at (R.one reader.now) end bytes.now) }
+    ensures { GivesFront result (counted_at (R.one reader.now) end bytes.now) }
 {
     let (count, rest) = u2_in(end, bytes)?;
     many_in(alloc, reader, count, end, rest)

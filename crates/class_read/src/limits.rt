@@ -74,7 +74,8 @@ pub(crate) fn have_more_methods(classes: &[Class], most: usize) -> bool
 
 /// The first limit that the classes pass.
 pub(crate) fn passed_limit(classes: &[Class]) -> Option<Limit>
-    ensures { MatchOption result (IsWithinLimits classes.now) (λ limit. IsFirstPassed limit classes.now) }
+    ensures { MatchOption result (IsWithinLimits classes.now)
+        (λ limit. IsFirstPassed limit classes.now) }
 {
     if classes.len() > Limit::Classes.most() {
         return Some(Limit::Classes);

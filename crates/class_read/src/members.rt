@@ -4,7 +4,7 @@ ghost use Rattle.std.specs.Prelude.{◌≡◌, ◌++◌, ◌∷◌, [], IfOk};
 ghost use Rattle.const_pool.specs.SeenMembers.{HasSeen};
 ghost use Rattle.class_text.specs.Readers.{index_at, many_after, counted_after};
 ghost use Rattle.class_text.specs.Classes.{leads_to_field_type, leads_to_method_type, field_at, method_at};
-ghost use Rattle.const_pool.specs.Faults.{Gives};
+ghost use Rattle.const_pool.specs.Faults.{GivesFront};
 ghost use Rattle.class_read.specs.Entered.{IsEntered};
 
 use crate::attributes::attributes_in;
@@ -47,9 +47,11 @@ impl<'p> Before<'p> {
         descriptor: u16,
     ) -> Result<bool, AllocError>
         requires { HasSeen pool.now self.old.list self.old.keys }
-        ensures first { IfOk result (λ first. first ≡ is_new pool.now self.old.list name descriptor) }
+        ensures first { IfOk result (λ first. first
+            ≡ is_new pool.now self.old.list name descriptor) }
         ensures list { self.new.list ≡ self.old.list }
-        ensures seen { OnOk result (IsEntered pool.now name descriptor self.old.list self.new.keys) }
+        ensures seen { OnOk result
+            (IsEntered pool.now name descriptor self.old.list self.new.keys) }
     {
         let first = self.keys.insert(pool.as_pool(), name, descriptor)?;
         Ok(first)
@@ -66,7 +68,8 @@ fn field_type_in<'a, 'p>(
     bytes: &'a [u8],
 ) -> Result<(u16, &'a [u8]), ClassFault>
     requires { HasSeen pool.now before.old.list before.old.keys }
-    ensures read { Gives (λ r. (r.0, r.1.now)) result (index_at (leads_to_field_type pool.now before.old.list name) end bytes.now) }
+    ensures read { GivesFront result
+        (index_at (leads_to_field_type pool.now before.old.list name) end bytes.now) }
     ensures list { before.new.list ≡ before.old.list }
     ensures seen { IfOk result (λ r. IsEntered pool.now name r.0 before.old.list before.new.keys) }
 {
@@ -91,7 +94,8 @@ fn method_type_in<'a, 'p>(
     bytes: &'a [u8],
 ) -> Result<(u16, &'a [u8]), ClassFault>
     requires { HasSeen pool.now before.old.list before.old.keys }
-    ensures read { Gives (λ r. (r.0, r.1.now)) result (index_at (leads_to_method_type pool.now before.old.list flags name) end bytes.now) }
+    ensures read { GivesFront result
+        (index_at (leads_to_method_type pool.now before.old.list flags name) end bytes.now) }
     ensures list { before.new.list ≡ before.old.list }
     ensures seen { IfOk result (λ r. IsEntered pool.now name r.0 before.old.list before.new.keys) }
 {
@@ -115,9 +119,10 @@ fn field_in<'a, 'p>(
     bytes: &'a [u8],
 ) -> Result<(Member, &'a [u8]), ClassFault>
     requires { HasSeen pool.now before.old.list before.old.keys }
-    ensures read { Gives (λ r. (r.0, r.1.now)) result (field_at pool.now before.old.list end bytes.now) }
+    ensures read { GivesFront result (field_at pool.now before.old.list end bytes.now) }
     ensures list { before.new.list ≡ before.old.list }
-    ensures seen { IfOk result (λ r. HasSeen pool.now (before.old.list ++ r.0 ∷ []) before.new.keys) }
+    ensures seen { IfOk result
+        (λ r. HasSeen pool.now (before.old.list ++ r.0 ∷ []) before.new.keys) }
 {
     let (flags, rest) = u2_in(end, bytes)?;
     let (name, rest) = index_in(pool, Target::FieldName, end, rest)?;
@@ -143,9 +148,10 @@ fn method_in<'a, 'p>(
     bytes: &'a [u8],
 ) -> Result<(Member, &'a [u8]), ClassFault>
     requires { HasSeen pool.now before.old.list before.old.keys }
-    ensures read { Gives (λ r. (r.0, r.1.now)) result (method_at pool.now before.old.list end bytes.now) }
+    ensures read { GivesFront result (method_at pool.now before.old.list end bytes.now) }
     ensures list { before.new.list ≡ before.old.list }
-    ensures seen { IfOk result (λ r. HasSeen pool.now (before.old.list ++ r.0 ∷ []) before.new.keys) }
+    ensures seen { IfOk result
+        (λ r. HasSeen pool.now (before.old.list ++ r.0 ∷ []) before.new.keys) }
 {
     let (flags, rest) = u2_in(end, bytes)?;
     let (name, rest) = index_in(pool, Target::MethodName, end, rest)?;
@@ -172,7 +178,7 @@ fn some_fields_in<'a>(
     end: u32,
     bytes: &'a [u8],
 ) -> Result<(Members, &'a [u8]), ClassFault>
-    ensures { Gives (λ r. (r.0, r.1.now)) result (many_after (field_at pool.now) [] count end bytes.now) }
+    ensures { GivesFront result (many_after (field_at pool.now) [] count end bytes.now) }
 {
     let mut before = Before::new(alloc, count, bytes)?;
     let mut rest = bytes;
@@ -196,7 +202,7 @@ pub(crate) fn fields_in<'a>(
     end: u32,
     bytes: &'a [u8],
 ) -> Result<(Members, &'a [u8]), ClassFault>
-    ensures { Gives (λ r. (r.0, r.1.now)) result (counted_after (field_at pool.now) end bytes.now) }
+    ensures { GivesFront result (counted_after (field_at pool.now) end bytes.now) }
 {
     let (count, rest) = u2_in(end, bytes)?;
     some_fields_in(alloc, pool, count, end, rest)
@@ -210,7 +216,7 @@ fn some_methods_in<'a>(
     end: u32,
     bytes: &'a [u8],
 ) -> Result<(Members, &'a [u8]), ClassFault>
-    ensures { Gives (λ r. (r.0, r.1.now)) result (many_after (method_at pool.now) [] count end bytes.now) }
+    ensures { GivesFront result (many_after (method_at pool.now) [] count end bytes.now) }
 {
     let mut before = Before::new(alloc, count, bytes)?;
     let mut rest = bytes;
@@ -234,7 +240,7 @@ pub(crate) fn methods_in<'a>(
     end: u32,
     bytes: &'a [u8],
 ) -> Result<(Members, &'a [u8]), ClassFault>
-    ensures { Gives (λ r. (r.0, r.1.now)) result (counted_after (method_at pool.now) end bytes.now) }
+    ensures { GivesFront result (counted_after (method_at pool.now) end bytes.now) }
 {
     let (count, rest) = u2_in(end, bytes)?;
     some_methods_in(alloc, pool, count, end, rest)

@@ -70,7 +70,8 @@ impl SeenAttributes {
     /// No attributes, with room for so many that stand at the front of bytes.
     pub(crate) fn new(alloc: Global, count: u16, bytes: &[u8]) -> Result<SeenAttributes, AllocError>
         ensures none { IfOk result (λ found. found.list ≡ []) }
-        ensures keeps { IfOk result (λ found. (pool : Pool) (place : Place) → Keeps pool place found) }
+        ensures keeps { IfOk result (λ found. (pool : Pool) (place : Place)
+            → Keeps pool place found) }
     {
         let list = items_with_room(alloc, count, bytes.len(), 6)?;
         Ok(SeenAttributes {
@@ -83,7 +84,8 @@ impl SeenAttributes {
     /// Whether no attribute of a known name stands there yet.
     pub(crate) fn is_first(&self, pool: &JudgedPool, stand: Stand<'_>, text: &[u8]) -> bool
         requires { Keeps pool.now (stand_of stand) self.now }
-        ensures { result ≡ is_first (is_known (stand_of stand.entry)) bytes_eq (map (attribute_name pool.now) self.now.list) text.now }
+        ensures { result ≡ is_first (is_known (stand_of stand.entry)) bytes_eq
+            (map (attribute_name pool.now) self.now.list) text.now }
     {
         if text == own_name(stand) {
             return !self.own;

@@ -5,7 +5,7 @@ ghost use Rattle.class_model.specs.Constants.{class_at};
 ghost use Rattle.class_text.specs.Readers.{index_at};
 ghost use Rattle.class_text.specs.Attributes.{leads_to_caught};
 ghost use Rattle.class_text.specs.Classes.{leads_to_super};
-ghost use Rattle.const_pool.specs.Faults.{Gives};
+ghost use Rattle.const_pool.specs.Faults.{GivesFront};
 ghost use Rattle.class_read.specs.Targets.{leads_to};
 
 use crate::item_lists::ReadItem;
@@ -52,7 +52,8 @@ fn is_caught(pool: &JudgedPool, number: u16) -> bool
 }
 
 fn is_object(pool: &JudgedPool, number: u16) -> bool
-    ensures { result ≡ bytes_eq (unwrap_or (class_at pool.now number) []) (codes "java/lang/Object") }
+    ensures { result ≡ bytes_eq (unwrap_or (class_at pool.now number) [])
+        (codes "java/lang/Object") }
 {
     match pool.as_pool().class_name(number) {
         Some(name) => name == OBJECT_NAME,
@@ -99,7 +100,7 @@ pub(crate) fn index_in<'a>(
     end: u32,
     bytes: &'a [u8],
 ) -> Result<(u16, &'a [u8]), ClassFault>
-    ensures { Gives (λ r. (r.0, r.1.now)) result (index_at (leads_to pool.now target.entry) end bytes.now) }
+    ensures { GivesFront result (index_at (leads_to pool.now target.entry) end bytes.now) }
 {
     let (number, rest) = u2_in(end, bytes)?;
     if !leads_to(pool, target, number) {

@@ -11,14 +11,14 @@ use Rattle.class_model.proofs.ClassParts.{are_parts, parts_name}
 use Rattle.class_text.specs.DescriptorText.{type_text, IsFieldType, result_text, IsResult, method_text, IsMethodType}
 use Rattle.class_text.proofs.Numbers.{some_is}
 
-abbrev Found : Type 0
-Found = FieldType × List ℕ
+abbrev FrontType : Type 0
+FrontType = FieldType × List ℕ
 
 -- what is read at the front is spelled there
-abbrev IsSpelled : List ℕ → Found → Type 0
+abbrev IsSpelled : List ℕ → FrontType → Type 0
 IsSpelled bytes found = IsFieldType found.0 × (bytes ≡ type_text found.0 ++ found.1)
 
-class_spelled : (bytes : List ℕ) (n : ℕ) (found : Found) → position is_semicolon bytes ≡ Some n → class_up_to bytes n ≡ Some found → IsSpelled (76 ∷ bytes) found
+class_spelled : (bytes : List ℕ) (n : ℕ) (found : FrontType) → position is_semicolon bytes ≡ Some n → class_up_to bytes n ≡ Some found → IsSpelled (76 ∷ bytes) found
 class_spelled bytes n found at e = elim (cases_Bool (is_class_name (take n bytes))) [
   | inr f ↦ absurd (let bad : None ≡ Some found = rw f at e in cc)
   | inl y ↦ (let p = position-Some is_semicolon bytes n 0 at in
@@ -29,7 +29,7 @@ class_spelled bytes n found at e = elim (cases_Bool (is_class_name (take n bytes
       subst (IsSpelled (76 ∷ bytes)) (some_is (object (take n bytes), drop (n + 1) bytes) found (rw y at e)) (y, ap (λ (l : List ℕ). 76 ∷ l) parts))
 ]
 
-component_spelled : (bytes : List ℕ) (found : Found) → component_at bytes ≡ Some found → IsSpelled bytes found
+component_spelled : (bytes : List ℕ) (found : FrontType) → component_at bytes ≡ Some found → IsSpelled bytes found
 unfolding component_at
 component_spelled [] found e = absurd cc
 component_spelled (b ∷ bytes) found e = elim (cases_Bool (is_primitive b)) [
@@ -40,11 +40,11 @@ component_spelled (b ∷ bytes) found e = elim (cases_Bool (is_primitive b)) [
   ]
 ]
   where
-    go : (at : Option ℕ) → position is_semicolon bytes ≡ at → option_and_then {U = Found} (class_up_to bytes) at ≡ Some found → IsSpelled (76 ∷ bytes) found
+    go : (at : Option ℕ) → position is_semicolon bytes ≡ at → option_and_then {U = FrontType} (class_up_to bytes) at ≡ Some found → IsSpelled (76 ∷ bytes) found
     go None is e = absurd cc
     go (Some n) is e = class_spelled bytes n found is e
 
-front_spelled : (bytes : List ℕ) (found : Found) → field_type_at bytes ≡ Some found → IsSpelled bytes found
+front_spelled : (bytes : List ℕ) (found : FrontType) → field_type_at bytes ≡ Some found → IsSpelled bytes found
 unfolding field_type_at
 front_spelled [] found e = absurd cc
 front_spelled (b ∷ bytes) found e = elim (cases_Bool (eqb b 91)) [
@@ -52,7 +52,7 @@ front_spelled (b ∷ bytes) found e = elim (cases_Bool (eqb b 91)) [
   | inl y ↦ subst (λ (k : ℕ). IsSpelled (k ∷ bytes) found) (sym (eqb-true b 91 y)) (go (field_type_at bytes) (λ x is. front_spelled bytes x is) (rw y at e))
 ]
   where
-    go : (inner : Option Found) → ((x : Found) → inner ≡ Some x → IsSpelled bytes x) → option_and_then deeper inner ≡ Some found → IsSpelled (91 ∷ bytes) found
+    go : (inner : Option FrontType) → ((x : FrontType) → inner ≡ Some x → IsSpelled bytes x) → option_and_then deeper inner ≡ Some found → IsSpelled (91 ∷ bytes) found
     go None on e = absurd cc
     go (Some x) on e = elim (cases_Bool (ltb (dimensions x.0) 255)) [
       | inr f ↦ absurd (let bad : None ≡ Some found = rw f at e in cc)
@@ -73,7 +73,7 @@ name_parts fresh (b ∷ name) rest e = elim (cases_Bool (eqb b 59)) [
   ]
 ]
 
-class_again : (name rest : List ℕ) → is_class_name name ≡ true → option_and_then {U = Found} (class_up_to (name ++ 59 ∷ rest)) (position is_semicolon (name ++ 59 ∷ rest)) ≡ Some (object name, rest)
+class_again : (name rest : List ℕ) → is_class_name name ≡ true → option_and_then {U = FrontType} (class_up_to (name ++ 59 ∷ rest)) (position is_semicolon (name ++ 59 ∷ rest)) ≡ Some (object name, rest)
 class_again name rest e =
     let at = name_parts true name rest (parts_name name ∙ e) in
     let within : ltb (length name) (length (name ++ 59 ∷ rest)) ≡ true = lt-ltb (length name) (length (name ++ 59 ∷ rest)) (omega (arith, length-append name (59 ∷ rest))) in
@@ -88,14 +88,14 @@ front_again (primitive letter) rest is = elim (cases_Bool (eqb letter 91)) [
   | inl y ↦ absurd (let bad : is_primitive 91 ≡ true = subst (λ (k : ℕ). is_primitive k ≡ true) (eqb-true letter 91 y) is in cc)
   | inr f ↦ rw (f, is) refl
 ]
-front_again (object name) rest is = ap (λ (l : List ℕ). option_and_then {U = Found} (class_up_to l) (position is_semicolon l)) (append_assoc name (59 ∷ []) rest) ∙ class_again name rest is
+front_again (object name) rest is = ap (λ (l : List ℕ). option_and_then {U = FrontType} (class_up_to l) (position is_semicolon l)) (append_assoc name (59 ∷ []) rest) ∙ class_again name rest is
 front_again (array t) rest is = rw (front_again t rest is.1, lt-ltb (dimensions t) 255 is.0) refl
 
 pub field_taken : (bytes : List ℕ) (t : FieldType) → field_type bytes ≡ Some t → IsFieldType t × (bytes ≡ type_text t)
 unfolding field_type
 field_taken bytes t e = go (field_type_at bytes) refl e
   where
-    go : (found : Option Found) → field_type_at bytes ≡ found → option_and_then alone found ≡ Some t → IsFieldType t × (bytes ≡ type_text t)
+    go : (found : Option FrontType) → field_type_at bytes ≡ found → option_and_then alone found ≡ Some t → IsFieldType t × (bytes ≡ type_text t)
     go None is e = absurd cc
     go (Some (u, [])) is e = let h = front_spelled bytes (u, []) is in subst (λ (v : FieldType). IsFieldType v × (bytes ≡ type_text v)) (some_is u t e) (h.0, h.1 ∙ append-nil (type_text u))
     go (Some (u, b ∷ more)) is e = absurd cc
@@ -135,7 +135,7 @@ types_spelled (suc most) (b ∷ bytes) found e = elim (cases_Bool (eqb b 41)) [
         subst (AreSpelled (b ∷ bytes)) (some_is (with_first t x) found e)
         ((first.0, h.0), first.1 ∙ ap (λ (l : List ℕ). type_text t ++ l) h.1 ∙ sym (append_assoc (type_text t) (flat_map type_text x.0) (41 ∷ x.1)))
 
-    go : (one : Option Found) → ((x : Found) → one ≡ Some x → IsSpelled (b ∷ bytes) x) → ((rest : List ℕ) (x : Parameters) → field_types_at most rest ≡ Some x → AreSpelled rest x) → option_and_then (λ found. option_map (with_first found.0) (field_types_at most found.1)) one ≡ Some found → AreSpelled (b ∷ bytes) found
+    go : (one : Option FrontType) → ((x : FrontType) → one ≡ Some x → IsSpelled (b ∷ bytes) x) → ((rest : List ℕ) (x : Parameters) → field_types_at most rest ≡ Some x → AreSpelled rest x) → option_and_then (λ found. option_map (with_first found.0) (field_types_at most found.1)) one ≡ Some found → AreSpelled (b ∷ bytes) found
     go None on more e = absurd cc
     go (Some x) on more e = others x.0 x.1 (field_types_at most x.1) (more x.1) (on x refl) e
 

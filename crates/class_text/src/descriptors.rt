@@ -6,6 +6,8 @@ ghost use Rattle.class_text.specs.DescriptorText.{type_text, IsFieldType, method
 
 /// A descriptor has exactly the type that spells it (JVMS 4.3.2, 4.3.3).
 pub fn descriptor_laws()
-    ensures field { (bytes : List ℕ) (t : FieldType) → (field_type bytes ≡ Some t) ↔ (IsFieldType t × (bytes ≡ type_text t)) }
-    ensures method { (bytes : List ℕ) (m : MethodType) → (method_type bytes ≡ Some m) ↔ (IsMethodType m × (bytes ≡ method_text m)) }
+    ensures field { (bytes : List ℕ) (t : FieldType)
+        → (field_type bytes ≡ Some t) ↔ (IsFieldType t × (bytes ≡ type_text t)) }
+    ensures method { (bytes : List ℕ) (m : MethodType)
+        → (method_type bytes ≡ Some m) ↔ (IsMethodType m × (bytes ≡ method_text m)) }
 {}

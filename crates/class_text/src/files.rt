@@ -17,16 +17,20 @@ ghost use Rattle.class_text.specs.Places.{IsOnlyCut, IsGoodBefore, IsWithin, IsC
 /// A class that is read is shaped and is spelled by the bytes, and the text of each shaped class is read. So a text has
 /// at most one class.
 pub fn class_laws()
-    ensures taken { (bytes : List ℕ) (c : Class) → IsBytes bytes → class_of bytes ≡ Ok c → Shaped c × (bytes ≡ spelling.class c) }
+    ensures taken { (bytes : List ℕ) (c : Class) → IsBytes bytes → class_of bytes ≡ Ok c
+        → Shaped c × (bytes ≡ spelling.class c) }
     ensures again { (c : Class) → Shaped c → class_of (spelling.class c) ≡ Ok c }
-    ensures once { (c d : Class) → Shaped c → Shaped d → spelling.class c ≡ spelling.class d → c ≡ d }
+    ensures once { (c d : Class) → Shaped c → Shaped d → spelling.class c ≡ spelling.class d
+        → c ≡ d }
 {}
 
 /// A fault other than a cut stays where more bytes follow. So no text that begins with such bytes is that of a class.
 pub fn class_continued_law()
-    ensures stays { (bytes more : List ℕ) (fault : Fault) → IsBytes bytes → is_cut fault ≡ false → class_of bytes ≡ Err fault
+    ensures stays { (bytes more : List ℕ) (fault : Fault) → IsBytes bytes → is_cut fault ≡ false
+        → class_of bytes ≡ Err fault
         → class_of (bytes ++ more) ≡ Err fault }
-    ensures none { (bytes more : List ℕ) (fault : Fault) → IsBytes bytes → is_cut fault ≡ false → class_of bytes ≡ Err fault
+    ensures none { (bytes more : List ℕ) (fault : Fault) → IsBytes bytes → is_cut fault ≡ false
+        → class_of bytes ≡ Err fault
         → (c : Class) → Shaped c → bytes ++ more ≡ spelling.class c → ⊥ }
 {}
 
@@ -35,12 +39,16 @@ pub fn class_continued_law()
 /// behind a front that is cut where it ends: the fault is named there, or the content of an attribute begins there and
 /// has it, read under the pool of the file. A fault is at a byte of the file; a cut may be at its end.
 pub fn class_place_law()
-    ensures good { (bytes : List ℕ) (fault : Fault) → IsBytes bytes → class_of bytes ≡ Err fault → IsGoodBefore fault (class_of (take (fault_place fault) bytes)) }
-    ensures shorter { (bytes : List ℕ) (fault : Fault) (n : ℕ) → IsBytes bytes → n < fault_place fault → class_of bytes ≡ Err fault
+    ensures good { (bytes : List ℕ) (fault : Fault) → IsBytes bytes → class_of bytes ≡ Err fault
+        → IsGoodBefore fault (class_of (take (fault_place fault) bytes)) }
+    ensures shorter { (bytes : List ℕ) (fault : Fault) (n : ℕ) → IsBytes bytes
+        → n < fault_place fault → class_of bytes ≡ Err fault
         → IsOnlyCut n (class_of (take n bytes)) }
-    ensures stops { (bytes : List ℕ) (fault : Fault) → IsBytes bytes → class_of bytes ≡ Err fault → is_left fault ≡ false
+    ensures stops { (bytes : List ℕ) (fault : Fault) → IsBytes bytes → class_of bytes ≡ Err fault
+        → is_left fault ≡ false
         → Stops class_at_front (IsInFile bytes) (length bytes) bytes fault }
-    ensures within { (bytes : List ℕ) (fault : Fault) → IsBytes bytes → class_of bytes ≡ Err fault → IsWithin (length bytes) fault }
+    ensures within { (bytes : List ℕ) (fault : Fault) → IsBytes bytes → class_of bytes ≡ Err fault
+        → IsWithin (length bytes) fault }
 {}
 
 /// What each fault says of the bytes at its place: the magic and the major version there are others; a text there isn't
@@ -51,9 +59,12 @@ pub fn class_place_law()
 /// known name; the method there lacks its code; a whole class stands before. Where 2^32 bytes follow a cut, whatever they
 /// are, nothing is cut there or before.
 pub fn class_fault_law()
-    ensures says { (file : List ℕ) (fault : Fault) → IsBytes file → class_of file ≡ Err fault → IsMeant file fault }
-    ensures lengthened { (bytes more : List ℕ) (at next : ℕ) → IsBytes bytes → IsBytes (bytes ++ more) → 2 ^ 32 ≤ length more
-        → class_of bytes ≡ Err (cut_short at) → class_of (bytes ++ more) ≡ Err (cut_short next) → at < next }
+    ensures says { (file : List ℕ) (fault : Fault) → IsBytes file → class_of file ≡ Err fault
+        → IsMeant file fault }
+    ensures lengthened { (bytes more : List ℕ) (at next : ℕ) → IsBytes bytes
+        → IsBytes (bytes ++ more) → 2 ^ 32 ≤ length more
+        → class_of bytes ≡ Err (cut_short at) → class_of (bytes ++ more) ≡ Err (cut_short next)
+        → at < next }
 {}
 
 /// The content of an attribute is looked at once it is whole, so the bytes of a file before a place in it are cut where
@@ -61,12 +72,18 @@ pub fn class_fault_law()
 /// Reading code stops at the place of a fault, or at the content of one of its own attributes, which has it; code that
 /// is bad as a whole is named by the place of its attribute.
 pub fn content_place_law()
-    ensures content { (pool : Pool) (stand : Place) (name at end : ℕ) (bytes : List ℕ) (fault : Fault) → IsPool pool → leads_to_text pool name ≡ true
-        → IsBytes bytes → at + length bytes < end → content_at pool stand name at end bytes ≡ Err fault → place end bytes ≤ fault_place fault
+    ensures content { (pool : Pool) (stand : Place) (name at end : ℕ) (bytes : List ℕ)
+        (fault : Fault) → IsPool pool → leads_to_text pool name ≡ true
+        → IsBytes bytes → at + length bytes < end
+        → content_at pool stand name at end bytes ≡ Err fault → place end bytes ≤ fault_place fault
         → IsCutBefore (content_at pool stand name at) end bytes fault }
-    ensures code { (pool : Pool) (name at end : ℕ) (bytes : List ℕ) (fault : Fault) → IsPool pool → leads_to_text pool name ≡ true
-        → IsBytes bytes → at + length bytes < end → code_content_at pool name at end bytes ≡ Err fault → place end bytes ≤ fault_place fault
+    ensures code { (pool : Pool) (name at end : ℕ) (bytes : List ℕ) (fault : Fault) → IsPool pool
+        → leads_to_text pool name ≡ true
+        → IsBytes bytes → at + length bytes < end
+        → code_content_at pool name at end bytes ≡ Err fault → place end bytes ≤ fault_place fault
         → IsCutBefore (code_content_at pool name at) end bytes fault }
-    ensures inner { (pool : Pool) (name at end : ℕ) (bytes : List ℕ) (fault : Fault) → IsPool pool → IsBytes bytes → at + length bytes < end
-        → code_at pool name at end bytes ≡ Err fault → (fault_place fault ≡ at) ⊎ Stops (code_at pool name at) (IsInCode pool) end bytes fault }
+    ensures inner { (pool : Pool) (name at end : ℕ) (bytes : List ℕ) (fault : Fault) → IsPool pool
+        → IsBytes bytes → at + length bytes < end
+        → code_at pool name at end bytes ≡ Err fault
+        → (fault_place fault ≡ at) ⊎ Stops (code_at pool name at) (IsInCode pool) end bytes fault }
 {}

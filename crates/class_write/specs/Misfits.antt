@@ -99,13 +99,20 @@ abbrev pub enum_value : Pool → Part → ℕ → ℕ → Option WriteFault
 enum_value pool part kind name =
     unless (is_some_that is_field_descriptor (text_at pool kind)) (BadShape part) <|> unless (is_some (text_at pool name)) (BadShape part)
 
+-- a value that is a constant of a tag, or a class by a descriptor
+abbrev pub constant_value : Pool → Part → ℕ → ℕ → Option WriteFault
+constant_value pool part tag index = unless (is_some_that (is_value_of tag) (constant_at pool index)) (BadShape part)
+
+abbrev pub class_value : Pool → Part → ℕ → Option WriteFault
+class_value pool part class = unless (is_some_that is_return_descriptor (text_at pool class)) (BadShape part)
+
 abbrev pub values : (Element → Option WriteFault) → Part → List Element → Option WriteFault
 values within part = counted part (λ n e. within e)
 
 abbrev pub element_by : (Element → Option WriteFault) → Pool → Part → ElementLayer → Option WriteFault
-element_by within pool part (Element-F.Const tag index) = unless (is_some_that (is_value_of tag) (constant_at pool index)) (BadShape part)
+element_by within pool part (Element-F.Const tag index) = constant_value pool part tag index
 element_by within pool part (Element-F.Enum kind name) = enum_value pool part kind name
-element_by within pool part (Element-F.OfClass class) = unless (is_some_that is_return_descriptor (text_at pool class)) (BadShape part)
+element_by within pool part (Element-F.OfClass class) = class_value pool part class
 element_by within pool part (Element-F.Nested note) = note_by within pool part note
 element_by within pool part (Element-F.Many list) = values within part list
 
@@ -113,6 +120,10 @@ element_by within pool part (Element-F.Many list) = values within part list
 unfoldable pub element : Pool → Part → ℕ → Element → Option WriteFault
 element pool part zero e = Some (BadShape part)
 element pool part (suc depth) e = element_by (element pool part depth) pool part (out-Element e)
+
+-- one whose own values may have so many levels
+abbrev pub layer : Pool → Part → ℕ → Element → Option WriteFault
+layer pool part depth e = element_by (element pool part depth) pool part (out-Element e)
 
 abbrev pub annotation : Pool → Part → Note → Option WriteFault
 annotation pool part = note_by (element pool part greatest_depth) pool part
@@ -217,9 +228,12 @@ code_attributes pool holder list = counted (parts.Attributes holder) (code_attri
 abbrev pub is_code_length : ℕ → Bool
 is_code_length n = nat_lt 0 n && nat_le n most_code
 
+abbrev pub code_length : AttributeId → ℕ → Option WriteFault
+code_length id n = unless (is_code_length n) (BadShape (at id items.Code))
+
 abbrev pub code : Pool → AttributeId → List ℕ → List Handler → List Attribute → Option WriteFault
 code pool id bytes table inner =
-    unless (is_code_length (length bytes)) (BadShape (at id items.Code)) <|> handlers pool id table <|> code_attributes pool (code_of id.holder) inner
+    code_length id (length bytes) <|> handlers pool id table <|> code_attributes pool (code_of id.holder) inner
 
 abbrev pub content : Pool → List ℕ → AttributeId → AttributeLayer → Option WriteFault
 content pool descriptor id (Attribute-F.Code name max_stack max_locals bytes table inner) = code pool id bytes table inner

@@ -7,7 +7,7 @@ ghost use Rattle.class_model.specs.Constants.{constant_at, text_at, is_some_that
 ghost use Rattle.class_model.specs.Descriptors.{is_field_descriptor, is_return_descriptor};
 ghost use Rattle.class_model.specs.Annotations.{IsCounted, IsPairBy, IsNoteBy, IsElementBy, IsElement, IsAnnotation, is_value_of};
 ghost use Rattle.class_model.specs.Spelling as spelling;
-ghost use Rattle.class_write.specs.Order.{unless, Refuses};
+ghost use Rattle.class_write.specs.Order.{Refuses};
 ghost use Rattle.class_write.specs.Misfits as misfits;
 ghost use Rattle.const_pool.specs.declared.write_fault.WriteFault.TheVariants as faults;
 
@@ -23,10 +23,12 @@ fn put_const(
     tag: u8,
     index: u16,
 ) -> Result<(), WriteFault>
-    ensures ok { OnOk result (out.new.items ≡ out.old.items ++ spelling.u1 tag ++ spelling.u2 index) }
-    ensures shaped { OnOk result (is_some_that (is_value_of tag) (constant_at pool.now index) ≡ true) }
-    ensures none { OnOk result (unless (is_some_that (is_value_of tag) (constant_at pool.now index)) (faults.BadShape part) ≡ None) }
-    ensures fault { IfErr result (λ e. Refuses e (unless (is_some_that (is_value_of tag) (constant_at pool.now index)) (faults.BadShape part))) }
+    ensures ok { OnOk result (out.new.items ≡ out.old.items ++ spelling.u1 tag
+        ++ spelling.u2 index) }
+    ensures shaped { OnOk result (is_some_that (is_value_of tag) (constant_at pool.now index)
+        ≡ true) }
+    ensures none { OnOk result (misfits.constant_value pool.now part tag index ≡ None) }
+    ensures fault { IfErr result (λ e. Refuses e (misfits.constant_value pool.now part tag index)) }
 {
     if !pool.is_value_of(tag, index) {
         return Err(WriteFault::BadShape(part));
@@ -44,7 +46,8 @@ fn put_enum(
     kind: u16,
     name: u16,
 ) -> Result<(), WriteFault>
-    ensures ok { OnOk result (out.new.items ≡ out.old.items ++ spelling.u1 (byte "e") ++ spelling.u2 kind ++ spelling.u2 name) }
+    ensures ok { OnOk result (out.new.items ≡ out.old.items ++ spelling.u1 (byte "e")
+        ++ spelling.u2 kind ++ spelling.u2 name) }
     ensures kind { OnOk result (is_some_that is_field_descriptor (text_at pool.now kind) ≡ true) }
     ensures name { OnOk result (is_some (text_at pool.now name) ≡ true) }
     ensures none { OnOk result (misfits.enum_value pool.now part kind name ≡ None) }
@@ -64,10 +67,12 @@ fn put_enum(
 
 #[tactic(auto, using(crate::proofs::Faults::faults))]
 fn put_class(out: &mut Vec<u8>, pool: &Pool, part: Part, class: u16) -> Result<(), WriteFault>
-    ensures ok { OnOk result (out.new.items ≡ out.old.items ++ spelling.u1 (byte "c") ++ spelling.u2 class) }
-    ensures shaped { OnOk result (is_some_that is_return_descriptor (text_at pool.now class) ≡ true) }
-    ensures none { OnOk result (unless (is_some_that is_return_descriptor (text_at pool.now class)) (faults.BadShape part) ≡ None) }
-    ensures fault { IfErr result (λ e. Refuses e (unless (is_some_that is_return_descriptor (text_at pool.now class)) (faults.BadShape part))) }
+    ensures ok { OnOk result (out.new.items ≡ out.old.items ++ spelling.u1 (byte "c")
+        ++ spelling.u2 class) }
+    ensures shaped { OnOk result (is_some_that is_return_descriptor (text_at pool.now class)
+        ≡ true) }
+    ensures none { OnOk result (misfits.class_value pool.now part class ≡ None) }
+    ensures fault { IfErr result (λ e. Refuses e (misfits.class_value pool.now part class)) }
 {
     if !pool.is_return_type(class) {
         return Err(WriteFault::BadShape(part));
@@ -90,7 +95,8 @@ fn put_element(
     ensures ok { OnOk result (out.new.items ≡ out.old.items ++ spelling.element depth element.now) }
     ensures shaped { OnOk result (IsElement pool.now depth element.now) }
     ensures none { OnOk result (misfits.element pool.now part depth element.now ≡ None) }
-    ensures fault { IfErr result (λ e. Refuses e (misfits.element pool.now part depth element.now)) }
+    ensures fault { IfErr result
+        (λ e. Refuses e (misfits.element pool.now part depth element.now)) }
 {
     if depth == 0 {
         return Err(WriteFault::BadShape(part));
@@ -109,10 +115,12 @@ fn put_layer(
     depth: u8,
     element: &Element,
 ) -> Result<(), WriteFault>
-    ensures ok { OnOk result (out.new.items ≡ out.old.items ++ spelling.element_by (spelling.element depth) (out-Element element.now)) }
-    ensures shaped { OnOk result (IsElementBy (IsElement pool.now depth) pool.now (out-Element element.now)) }
-    ensures none { OnOk result (misfits.element_by (misfits.element pool.now part depth) pool.now part (out-Element element.now) ≡ None) }
-    ensures fault { IfErr result (λ e. Refuses e (misfits.element_by (misfits.element pool.now part depth) pool.now part (out-Element element.now))) }
+    ensures ok { OnOk result (out.new.items ≡ out.old.items
+        ++ spelling.element_by (spelling.element depth) (out-Element element.now)) }
+    ensures shaped { OnOk result
+        (IsElementBy (IsElement pool.now depth) pool.now (out-Element element.now)) }
+    ensures none { OnOk result (misfits.layer pool.now part depth element.now ≡ None) }
+    ensures fault { IfErr result (λ e. Refuses e (misfits.layer pool.now part depth element.now)) }
 {
     match element {
         Element::Const { tag, index } => put_const(out, pool, part, *tag, *index),
@@ -144,10 +152,13 @@ fn put_values(
     depth: u8,
     values: &[Element],
 ) -> Result<(), WriteFault>
-    ensures ok { OnOk result (out.new.items ≡ out.old.items ++ spelling.counted (spelling.element depth) values.now) }
+    ensures ok { OnOk result (out.new.items ≡ out.old.items
+        ++ spelling.counted (spelling.element depth) values.now) }
     ensures shaped { OnOk result (IsCounted (IsElement pool.now depth) values.now) }
-    ensures none { OnOk result (misfits.values (misfits.element pool.now part depth) part values.now ≡ None) }
-    ensures fault { IfErr result (λ e. Refuses e (misfits.values (misfits.element pool.now part depth) part values.now)) }
+    ensures none { OnOk result (misfits.values (misfits.element pool.now part depth) part values.now
+        ≡ None) }
+    ensures fault { IfErr result
+        (λ e. Refuses e (misfits.values (misfits.element pool.now part depth) part values.now)) }
 {
     put_count(out, part, values.len())?;
     for i in 0..values.len() {
@@ -165,10 +176,14 @@ fn put_pair(
     depth: u8,
     pair: &Pair,
 ) -> Result<(), WriteFault>
-    ensures ok { OnOk result (out.new.items ≡ out.old.items ++ spelling.pair_by (spelling.element depth) pair.now) }
+    ensures ok { OnOk result (out.new.items ≡ out.old.items
+        ++ spelling.pair_by (spelling.element depth) pair.now) }
     ensures shaped { OnOk result (IsPairBy (IsElement pool.now depth) pool.now pair.now) }
-    ensures none { OnOk result (misfits.pair_by (misfits.element pool.now part depth) pool.now part pair.now ≡ None) }
-    ensures fault { IfErr result (λ e. Refuses e (misfits.pair_by (misfits.element pool.now part depth) pool.now part pair.now)) }
+    ensures none { OnOk result
+        (misfits.pair_by (misfits.element pool.now part depth) pool.now part pair.now ≡ None) }
+    ensures fault { IfErr result
+        (λ e. Refuses e (misfits.pair_by
+        (misfits.element pool.now part depth) pool.now part pair.now)) }
 {
     if !pool.is_text(pair.name) {
         return Err(WriteFault::BadShape(part));
@@ -187,10 +202,15 @@ fn put_pairs(
     depth: u8,
     pairs: &[Pair],
 ) -> Result<(), WriteFault>
-    ensures ok { OnOk result (out.new.items ≡ out.old.items ++ spelling.counted (spelling.pair_by (spelling.element depth)) pairs.now) }
-    ensures shaped { OnOk result (IsCounted (IsPairBy (IsElement pool.now depth) pool.now) pairs.now) }
-    ensures none { OnOk result (misfits.pairs (misfits.element pool.now part depth) pool.now part pairs.now ≡ None) }
-    ensures fault { IfErr result (λ e. Refuses e (misfits.pairs (misfits.element pool.now part depth) pool.now part pairs.now)) }
+    ensures ok { OnOk result (out.new.items ≡ out.old.items
+        ++ spelling.counted (spelling.pair_by (spelling.element depth)) pairs.now) }
+    ensures shaped { OnOk result
+        (IsCounted (IsPairBy (IsElement pool.now depth) pool.now) pairs.now) }
+    ensures none { OnOk result
+        (misfits.pairs (misfits.element pool.now part depth) pool.now part pairs.now ≡ None) }
+    ensures fault { IfErr result
+        (λ e. Refuses e (misfits.pairs
+        (misfits.element pool.now part depth) pool.now part pairs.now)) }
 {
     put_count(out, part, pairs.len())?;
     for i in 0..pairs.len() {
@@ -209,10 +229,14 @@ fn put_note(
     depth: u8,
     note: &Note,
 ) -> Result<(), WriteFault>
-    ensures ok { OnOk result (out.new.items ≡ out.old.items ++ spelling.note_by (spelling.element depth) note.now) }
+    ensures ok { OnOk result (out.new.items ≡ out.old.items
+        ++ spelling.note_by (spelling.element depth) note.now) }
     ensures shaped { OnOk result (IsNoteBy (IsElement pool.now depth) pool.now note.now) }
-    ensures none { OnOk result (misfits.note_by (misfits.element pool.now part depth) pool.now part note.now ≡ None) }
-    ensures fault { IfErr result (λ e. Refuses e (misfits.note_by (misfits.element pool.now part depth) pool.now part note.now)) }
+    ensures none { OnOk result
+        (misfits.note_by (misfits.element pool.now part depth) pool.now part note.now ≡ None) }
+    ensures fault { IfErr result
+        (λ e. Refuses e (misfits.note_by
+        (misfits.element pool.now part depth) pool.now part note.now)) }
 {
     if !pool.is_field_type(note.kind) {
         return Err(WriteFault::BadShape(part));
@@ -241,7 +265,8 @@ impl WriteItem for AnnotationWriter<'_> {
 
     ghost is_shaped = { λ s. IsAnnotation s.pool.now };
 
-    ghost misfit = { λ s number. misfits.annotation s.pool.now (misfits.at s.id (items.Annotation number)) };
+    ghost misfit = { λ s number. misfits.annotation s.pool.now
+        (misfits.at s.id (items.Annotation number)) };
 
     fn write(&self, out: &mut Vec<u8>, number: u32, item: &Note) -> Result<(), WriteFault> {
         let part = Part::Attribute(self.id, AttributePart::Annotation(number));
@@ -256,7 +281,9 @@ pub(crate) fn put_annotations(
     id: AttributeId,
     notes: &[Note],
 ) -> Result<(), WriteFault>
-    ensures ok { OnOk result (out.new.items ≡ out.old.items ++ spelling.counted (spelling.note_by (spelling.element spelling.greatest_depth)) notes.now) }
+    ensures ok { OnOk result (out.new.items ≡ out.old.items
+        ++ spelling.counted
+        (spelling.note_by (spelling.element spelling.greatest_depth)) notes.now) }
     ensures shaped { OnOk result (IsCounted (IsAnnotation pool.now) notes.now) }
     ensures none { OnOk result (misfits.annotations pool.now id notes.now ≡ None) }
     ensures fault { IfErr result (λ e. Refuses e (misfits.annotations pool.now id notes.now)) }

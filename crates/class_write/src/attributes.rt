@@ -34,7 +34,8 @@ fn is_either(text: &[u8], one: &[u8], other: &[u8]) -> bool
 /// Whether a name is known among the attributes of a holder.
 #[tactic(auto, unfolding(class_model::specs::Attributes::is_known))]
 fn is_known(holder: Holder, text: &[u8]) -> bool
-    ensures { (descriptor : List ℕ) → result ≡ is_known (attribute_place holder descriptor) text.now }
+    ensures { (descriptor : List ℕ)
+        → result ≡ is_known (attribute_place holder descriptor) text.now }
 {
     let annotations = VISIBLE_ANNOTATIONS_NAME;
     match holder {
@@ -95,7 +96,8 @@ fn has_form(holder: Holder, attribute: &Attribute) -> bool
 }
 
 fn is_unknown(pool: &Pool, holder: Holder, number: u16) -> bool
-    ensures { (descriptor : List ℕ) → result ≡ misfits.is_unknown pool.now (attribute_place holder descriptor) number }
+    ensures { (descriptor : List ℕ)
+        → result ≡ misfits.is_unknown pool.now (attribute_place holder descriptor) number }
 {
     match pool.text(number) {
         Some(text) => !is_known(holder, text),
@@ -104,7 +106,9 @@ fn is_unknown(pool: &Pool, holder: Holder, number: u16) -> bool
 }
 
 fn has_name(pool: &Pool, holder: Holder, attribute: &Attribute) -> bool
-    ensures { (descriptor : List ℕ) → result ≡ misfits.has_name pool.now (attribute_place holder descriptor) (out-Attribute attribute.now) }
+    ensures { (descriptor : List ℕ)
+        → result ≡ misfits.has_name pool.now (attribute_place holder descriptor)
+        (out-Attribute attribute.now) }
 {
     match attribute {
         Attribute::Code { name, .. } => pool.is_named(CODE_NAME, *name),
@@ -119,7 +123,8 @@ fn has_name(pool: &Pool, holder: Holder, attribute: &Attribute) -> bool
 /// Whether an attribute may stand among those of a holder. A method that is `bare` has no code.
 #[tactic(auto, unfolding(crate::specs::Misfits::may_stand))]
 fn may_stand(pool: &Pool, holder: Holder, bare: bool, attribute: &Attribute) -> bool
-    ensures { (descriptor : List ℕ) → result ≡ misfits.may_stand pool.now holder descriptor bare (out-Attribute attribute.now) }
+    ensures { (descriptor : List ℕ)
+        → result ≡ misfits.may_stand pool.now holder descriptor bare (out-Attribute attribute.now) }
 {
     if !has_form(holder, attribute) {
         return false;
@@ -141,7 +146,8 @@ fn attribute_name<'a>(pool: &'a Pool, attribute: &Attribute) -> &'a [u8]
 
 /// Whether one of so many attributes has a name.
 fn stands_among(pool: &Pool, list: &[Attribute], many: usize, name: &[u8]) -> bool
-    ensures { result ≡ list_any (λ a. bytes_eq name.now (attribute_name pool.now a)) (take many list.now) }
+    ensures { result ≡ list_any (λ a. bytes_eq name.now (attribute_name pool.now a))
+        (take many list.now) }
 {
     list.iter()
         .take(many)
@@ -156,7 +162,9 @@ fn is_second(
     number: usize,
     attribute: &Attribute,
 ) -> bool
-    ensures { (descriptor : List ℕ) → misfits.is_second_of_name pool.now (attribute_place holder descriptor) list.now number attribute.now ≡ result }
+    ensures { (descriptor : List ℕ)
+        → misfits.is_second_of_name pool.now
+        (attribute_place holder descriptor) list.now number attribute.now ≡ result }
 {
     let name = attribute_name(pool, attribute);
     if !is_known(holder, name) {
@@ -197,7 +205,8 @@ fn has_place(
     number: usize,
     attribute: &Attribute,
 ) -> bool
-    ensures { (descriptor : List ℕ) → misfits.has_place pool.now holder descriptor bare list.now number attribute.now ≡ result }
+    ensures { (descriptor : List ℕ)
+        → misfits.has_place pool.now holder descriptor bare list.now number attribute.now ≡ result }
 {
     if !may_stand(pool, holder, bare, attribute) {
         return false;
@@ -260,10 +269,12 @@ pub(crate) fn put_code_attributes(
     list: &[Attribute],
 ) -> Result<(), WriteFault>
     requires { misfits.is_code holder ≡ true }
-    ensures ok { OnOk result (out.new.items ≡ out.old.items ++ spelling.counted spelling.code_attribute list.now) }
+    ensures ok { OnOk result (out.new.items ≡ out.old.items
+        ++ spelling.counted spelling.code_attribute list.now) }
     ensures shaped { OnOk result (IsCodeAttributes pool.now list.now) }
     ensures none { OnOk result (misfits.code_attributes pool.now holder list.now ≡ None) }
-    ensures fault { IfErr result (λ e. Refuses e (misfits.code_attributes pool.now holder list.now)) }
+    ensures fault { IfErr result
+        (λ e. Refuses e (misfits.code_attributes pool.now holder list.now)) }
 {
     let writer = CodeAttributeWriter {
         alloc,
@@ -306,11 +317,19 @@ fn put_code(
 ) -> Result<(), WriteFault>
     requires { misfits.is_method id.holder ≡ true }
     ensures ok { OnOk result (out.new.items ≡ out.old.items
-        ++ spelling.u2 code.entry.max_stack ++ spelling.u2 code.entry.max_locals ++ spelling.u4 (length code.entry.bytes.now) ++ code.entry.bytes.now
-        ++ spelling.counted spelling.handler code.entry.table.now ++ spelling.counted spelling.code_attribute code.entry.attributes.now) }
-    ensures shaped { OnOk result (IsCode (IsCodeAttributes pool.now) pool.now code.entry.max_stack code.entry.max_locals code.entry.bytes.now code.entry.table.now code.entry.attributes.now) }
-    ensures none { OnOk result (misfits.code pool.now id code.entry.bytes.now code.entry.table.now code.entry.attributes.now ≡ None) }
-    ensures fault { IfErr result (λ e. Refuses e (misfits.code pool.now id code.entry.bytes.now code.entry.table.now code.entry.attributes.now)) }
+        ++ spelling.u2 code.entry.max_stack ++ spelling.u2 code.entry.max_locals
+        ++ spelling.u4 (length code.entry.bytes.now) ++ code.entry.bytes.now
+        ++ spelling.counted spelling.handler code.entry.table.now
+        ++ spelling.counted spelling.code_attribute code.entry.attributes.now) }
+    ensures shaped { OnOk result
+        (IsCode (IsCodeAttributes pool.now) pool.now code.entry.max_stack code.entry.max_locals
+        code.entry.bytes.now code.entry.table.now code.entry.attributes.now) }
+    ensures none { OnOk result
+        (misfits.code pool.now id code.entry.bytes.now code.entry.table.now
+        code.entry.attributes.now ≡ None) }
+    ensures fault { IfErr result
+        (λ e. Refuses e (misfits.code pool.now id code.entry.bytes.now code.entry.table.now
+        code.entry.attributes.now)) }
 {
     put_code_bytes(out, id, code.max_stack, code.max_locals, code.bytes)?;
     put_handlers(out, pool, id, code.table)?;
@@ -328,11 +347,17 @@ fn put_content(
     id: AttributeId,
     attribute: &Attribute,
 ) -> Result<(), WriteFault>
-    requires { is_code_layer (out-Attribute attribute.now) ≡ true → misfits.is_method id.holder ≡ true }
-    ensures ok { OnOk result (out.new.items ≡ out.old.items ++ spelling.content_by spelling.code_attribute (out-Attribute attribute.now)) }
-    ensures shaped { OnOk result (HasContent (IsCodeAttributes pool.now) pool.now descriptor.now (out-Attribute attribute.now)) }
-    ensures none { OnOk result (misfits.content pool.now descriptor.now id (out-Attribute attribute.now) ≡ None) }
-    ensures fault { IfErr result (λ e. Refuses e (misfits.content pool.now descriptor.now id (out-Attribute attribute.now))) }
+    requires { is_code_layer (out-Attribute attribute.now) ≡ true
+        → misfits.is_method id.holder ≡ true }
+    ensures ok { OnOk result (out.new.items ≡ out.old.items
+        ++ spelling.content_by spelling.code_attribute (out-Attribute attribute.now)) }
+    ensures shaped { OnOk result (HasContent (IsCodeAttributes pool.now) pool.now descriptor.now
+        (out-Attribute attribute.now)) }
+    ensures none { OnOk result
+        (misfits.content pool.now descriptor.now id (out-Attribute attribute.now) ≡ None) }
+    ensures fault { IfErr result
+        (λ e. Refuses e (misfits.content pool.now descriptor.now id
+        (out-Attribute attribute.now))) }
 {
     match attribute {
         Attribute::Code {
@@ -387,9 +412,11 @@ impl WriteItem for AttributeWriter<'_> {
 
     ghost text = { λ s. attribute };
 
-    ghost is_shaped = { λ s. IsAttribute s.pool.now (misfits.attribute_place s.stand.holder s.stand.descriptor.now) };
+    ghost is_shaped = { λ s. IsAttribute s.pool.now
+        (misfits.attribute_place s.stand.holder s.stand.descriptor.now) };
 
-    ghost misfit = { λ s. misfits.attribute_of s.pool.now s.stand.holder s.stand.descriptor.now s.stand.bare s.list.now };
+    ghost misfit = { λ s. misfits.attribute_of s.pool.now s.stand.holder s.stand.descriptor.now
+        s.stand.bare s.list.now };
 
     #[tactic(auto, using(crate::proofs::Faults::faults), unfolding(crate::specs::Misfits::attribute_of, class_model::specs::Spelling::attribute))]
     fn write(&self, out: &mut Vec<u8>, number: u32, item: &Attribute) -> Result<(), WriteFault> {
@@ -417,10 +444,16 @@ pub(crate) fn put_attributes(
     stand: Stand<'_>,
     list: &[Attribute],
 ) -> Result<(), WriteFault>
-    ensures ok { OnOk result (out.new.items ≡ out.old.items ++ spelling.counted spelling.attribute list.now) }
-    ensures shaped { OnOk result (IsAttributes pool.now (attribute_place stand.entry.holder stand.entry.descriptor.now) list.now) }
-    ensures none { OnOk result (misfits.attributes pool.now stand.entry.holder stand.entry.descriptor.now stand.entry.bare list.now ≡ None) }
-    ensures fault { IfErr result (λ e. Refuses e (misfits.attributes pool.now stand.entry.holder stand.entry.descriptor.now stand.entry.bare list.now)) }
+    ensures ok { OnOk result (out.new.items ≡ out.old.items
+        ++ spelling.counted spelling.attribute list.now) }
+    ensures shaped { OnOk result (IsAttributes pool.now
+        (attribute_place stand.entry.holder stand.entry.descriptor.now) list.now) }
+    ensures none { OnOk result
+        (misfits.attributes pool.now stand.entry.holder stand.entry.descriptor.now stand.entry.bare
+        list.now ≡ None) }
+    ensures fault { IfErr result
+        (λ e. Refuses e (misfits.attributes pool.now stand.entry.holder stand.entry.descriptor.now
+        stand.entry.bare list.now)) }
 {
     let writer = AttributeWriter {
         alloc,

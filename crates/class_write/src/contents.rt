@@ -49,7 +49,8 @@ impl WriteItem for HandlerWriter<'_> {
 
     ghost is_shaped = { λ s. IsHandler s.pool.now };
 
-    ghost misfit = { λ s number. misfits.handler s.pool.now (misfits.at s.id (items.Handler number)) };
+    ghost misfit = { λ s number. misfits.handler s.pool.now
+        (misfits.at s.id (items.Handler number)) };
 
     #[tactic(auto, using(crate::proofs::Faults::faults), unfolding(class_model::specs::Spelling::handler))]
     fn write(&self, out: &mut Vec<u8>, number: u32, item: &Handler) -> Result<(), WriteFault> {
@@ -72,7 +73,8 @@ pub(crate) fn put_handlers(
     id: AttributeId,
     table: &[Handler],
 ) -> Result<(), WriteFault>
-    ensures ok { OnOk result (out.new.items ≡ out.old.items ++ spelling.counted spelling.handler table.now) }
+    ensures ok { OnOk result (out.new.items ≡ out.old.items
+        ++ spelling.counted spelling.handler table.now) }
     ensures shaped { OnOk result (IsCounted (IsHandler pool.now) table.now) }
     ensures none { OnOk result (misfits.handlers pool.now id table.now ≡ None) }
     ensures fault { IfErr result (λ e. Refuses e (misfits.handlers pool.now id table.now)) }
@@ -132,7 +134,8 @@ impl WriteItem for BootstrapWriter<'_> {
 
     ghost is_shaped = { λ s. IsBootstrap s.pool.now };
 
-    ghost misfit = { λ s number. misfits.bootstrap s.pool.now (misfits.at s.id (items.Bootstrap number)) };
+    ghost misfit = { λ s number. misfits.bootstrap s.pool.now
+        (misfits.at s.id (items.Bootstrap number)) };
 
     #[tactic(auto, using(crate::proofs::Faults::faults), unfolding(class_model::specs::Spelling::bootstrap, crate::specs::Misfits::bootstrap))]
     fn write(&self, out: &mut Vec<u8>, number: u32, item: &Bootstrap) -> Result<(), WriteFault> {
@@ -155,7 +158,8 @@ fn put_bootstraps(
     id: AttributeId,
     entries: &[Bootstrap],
 ) -> Result<(), WriteFault>
-    ensures ok { OnOk result (out.new.items ≡ out.old.items ++ spelling.counted spelling.bootstrap entries.now) }
+    ensures ok { OnOk result (out.new.items ≡ out.old.items
+        ++ spelling.counted spelling.bootstrap entries.now) }
     ensures shaped { OnOk result (IsCounted (IsBootstrap pool.now) entries.now) }
     ensures none { OnOk result (misfits.bootstraps pool.now id entries.now ≡ None) }
     ensures fault { IfErr result (λ e. Refuses e (misfits.bootstraps pool.now id entries.now)) }
@@ -174,7 +178,8 @@ fn put_value(
     index: u16,
 ) -> Result<(), WriteFault>
     ensures ok { OnOk result (out.new.items ≡ out.old.items ++ spelling.u2 index) }
-    ensures shaped { OnOk result (is_some_that (is_value_for descriptor.now) (constant_at pool.now index) ≡ true) }
+    ensures shaped { OnOk result
+        (is_some_that (is_value_for descriptor.now) (constant_at pool.now index) ≡ true) }
     ensures none { OnOk result (misfits.value pool.now descriptor.now id index ≡ None) }
     ensures fault { IfErr result (λ e. Refuses e (misfits.value pool.now descriptor.now id index)) }
 {
@@ -203,10 +208,11 @@ pub(crate) fn put_code_bytes(
     max_locals: u16,
     code: &[u8],
 ) -> Result<(), WriteFault>
-    ensures ok { OnOk result (out.new.items ≡ out.old.items ++ spelling.u2 max_stack ++ spelling.u2 max_locals ++ spelling.u4 (length code.now) ++ code.now) }
+    ensures ok { OnOk result (out.new.items ≡ out.old.items ++ spelling.u2 max_stack
+        ++ spelling.u2 max_locals ++ spelling.u4 (length code.now) ++ code.now) }
     ensures some { OnOk result (misfits.is_code_length (length code.now) ≡ true) }
     ensures bytes { OnOk result (IsBytes code.now) }
-    ensures fault { IfErr result (λ e. Refuses e (unless (misfits.is_code_length (length code.now)) (faults.BadShape (misfits.at id items.Code)))) }
+    ensures fault { IfErr result (λ e. Refuses e (misfits.code_length id (length code.now))) }
 {
     if code.is_empty() || code.len() > MOST_CODE as usize {
         return Err(WriteFault::BadShape(Part::Attribute(id, AttributePart::Code)));
@@ -226,10 +232,14 @@ pub(crate) fn put_plain(
     id: AttributeId,
     attribute: &Attribute,
 ) -> Result<(), WriteFault>
-    ensures ok { OnOk result (out.new.items ≡ out.old.items ++ spelling.content_by spelling.no_attribute (out-Attribute attribute.now)) }
-    ensures shaped { OnOk result (HasPlainContent pool.now descriptor.now (out-Attribute attribute.now)) }
-    ensures none { OnOk result (misfits.plain pool.now descriptor.now id (out-Attribute attribute.now) ≡ None) }
-    ensures fault { IfErr result (λ e. Refuses e (misfits.plain pool.now descriptor.now id (out-Attribute attribute.now))) }
+    ensures ok { OnOk result (out.new.items ≡ out.old.items
+        ++ spelling.content_by spelling.no_attribute (out-Attribute attribute.now)) }
+    ensures shaped { OnOk result
+        (HasPlainContent pool.now descriptor.now (out-Attribute attribute.now)) }
+    ensures none { OnOk result
+        (misfits.plain pool.now descriptor.now id (out-Attribute attribute.now) ≡ None) }
+    ensures fault { IfErr result
+        (λ e. Refuses e (misfits.plain pool.now descriptor.now id (out-Attribute attribute.now))) }
 {
     match attribute {
         Attribute::Code { .. } => Err(WriteFault::BadShape(Part::Attribute(

@@ -77,7 +77,8 @@ fn put_types(
     types: &[FrameType],
 ) -> Result<(), WriteFault>
     requires { length types.now < 2 ^ 16 }
-    ensures ok { OnOk result (out.new.items ≡ out.old.items ++ flat_map spelling.frame_type types.now) }
+    ensures ok { OnOk result (out.new.items ≡ out.old.items
+        ++ flat_map spelling.frame_type types.now) }
     ensures shaped { OnOk result (IsCounted (IsFrameType pool.now) types.now) }
     ensures none { OnOk result (misfits.frame_types pool.now part types.now ≡ None) }
     ensures fault { IfErr result (λ e. Refuses e (misfits.frame_types pool.now part types.now)) }
@@ -93,7 +94,8 @@ fn put_counted_types(
     part: Part,
     types: &[FrameType],
 ) -> Result<(), WriteFault>
-    ensures ok { OnOk result (out.new.items ≡ out.old.items ++ spelling.counted spelling.frame_type types.now) }
+    ensures ok { OnOk result (out.new.items ≡ out.old.items
+        ++ spelling.counted spelling.frame_type types.now) }
     ensures shaped { OnOk result (IsCounted (IsFrameType pool.now) types.now) }
     ensures none { OnOk result (misfits.frame_types pool.now part types.now ≡ None) }
     ensures fault { IfErr result (λ e. Refuses e (misfits.frame_types pool.now part types.now)) }
@@ -208,7 +210,8 @@ pub(crate) fn put_frames(
     id: AttributeId,
     frames: &[StackFrame],
 ) -> Result<(), WriteFault>
-    ensures ok { OnOk result (out.new.items ≡ out.old.items ++ spelling.counted spelling.frame frames.now) }
+    ensures ok { OnOk result (out.new.items ≡ out.old.items
+        ++ spelling.counted spelling.frame frames.now) }
     ensures shaped { OnOk result (IsCounted (IsFrame pool.now) frames.now) }
     ensures none { OnOk result (misfits.frames pool.now id frames.now ≡ None) }
     ensures fault { IfErr result (λ e. Refuses e (misfits.frames pool.now id frames.now)) }

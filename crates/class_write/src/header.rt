@@ -116,8 +116,10 @@ impl WriteItem for InterfaceWriter<'_> {
 
 /// Writes the interfaces behind their count.
 fn put_interfaces(out: &mut Vec<u8>, pool: &Pool, interfaces: &[u16]) -> Result<(), WriteFault>
-    ensures ok { OnOk result (out.new.items ≡ out.old.items ++ spelling.counted spelling.u2 interfaces.now) }
-    ensures shaped { OnOk result (IsCounted (λ index. is_plain_class pool.now index ≡ true) interfaces.now) }
+    ensures ok { OnOk result (out.new.items ≡ out.old.items
+        ++ spelling.counted spelling.u2 interfaces.now) }
+    ensures shaped { OnOk result
+        (IsCounted (λ index. is_plain_class pool.now index ≡ true) interfaces.now) }
     ensures none { OnOk result (misfits.interfaces pool.now interfaces.now ≡ None) }
     ensures fault { IfErr result (λ e. Refuses e (misfits.interfaces pool.now interfaces.now)) }
 {
@@ -127,7 +129,8 @@ fn put_interfaces(out: &mut Vec<u8>, pool: &Pool, interfaces: &[u16]) -> Result<
 /// Writes what stands before the interfaces.
 #[tactic(auto, using(crate::proofs::Faults::faults))]
 fn put_head(out: &mut Vec<u8>, alloc: Global, class: &Class) -> Result<(), WriteFault>
-    ensures ok { OnOk result (out.new.items ≡ out.old.items ++ text.version class.now ++ spelling.pool class.now.pool ++ text.names class.now) }
+    ensures ok { OnOk result (out.new.items ≡ out.old.items ++ text.version class.now
+        ++ spelling.pool class.now.pool ++ text.names class.now) }
     ensures shaped { OnOk result (text.IsHead class.now) }
     ensures none { OnOk result (misfits.head class.now ≡ None) }
     ensures fault { IfErr result (λ e. Refuses e (misfits.head class.now)) }
@@ -142,9 +145,12 @@ fn put_head(out: &mut Vec<u8>, alloc: Global, class: &Class) -> Result<(), Write
 #[tactic(auto, using(crate::proofs::Faults::faults))]
 fn put_lists(out: &mut Vec<u8>, alloc: Global, class: &Class) -> Result<(), WriteFault>
     ensures ok { OnOk result (out.new.items ≡ out.old.items ++ text.lists class.now) }
-    ensures interfaces { OnOk result (IsCounted (λ index. is_plain_class class.now.pool index ≡ true) class.now.interfaces) }
-    ensures fields { OnOk result (IsMembers (IsField class.now.pool) class.now.pool class.now.fields) }
-    ensures methods { OnOk result (IsMembers (IsMethod class.now.pool) class.now.pool class.now.methods) }
+    ensures interfaces { OnOk result
+        (IsCounted (λ index. is_plain_class class.now.pool index ≡ true) class.now.interfaces) }
+    ensures fields { OnOk result
+        (IsMembers (IsField class.now.pool) class.now.pool class.now.fields) }
+    ensures methods { OnOk result
+        (IsMembers (IsMethod class.now.pool) class.now.pool class.now.methods) }
     ensures attributes { OnOk result (IsAttributes class.now.pool in_class class.now.attributes) }
     ensures none { OnOk result (misfits.lists_of class.now ≡ None) }
     ensures fault { IfErr result (λ e. Refuses e (misfits.lists_of class.now)) }

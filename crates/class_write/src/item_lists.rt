@@ -41,7 +41,8 @@ pub(crate) fn write_many<W: WriteItem>(
     items: &[W::Item],
 ) -> Result<(), WriteFault>
     requires { length items.now < 2 ^ 16 }
-    ensures ok { OnOk result (out.new.items ≡ out.old.items ++ flat_map (W.text writer.now) items.now) }
+    ensures ok { OnOk result (out.new.items ≡ out.old.items
+        ++ flat_map (W.text writer.now) items.now) }
     ensures shaped { OnOk result (AllByRecursion (W.is_shaped writer.now) items.now) }
     ensures none { OnOk result (first_from (W.misfit writer.now) 0 items.now ≡ None) }
     ensures fault { IfErr result (λ e. Refuses e (first_from (W.misfit writer.now) 0 items.now)) }
@@ -57,7 +58,8 @@ pub(crate) fn write_many<W: WriteItem>(
 pub(crate) fn put_count(out: &mut Vec<u8>, part: Part, count: usize) -> Result<(), WriteFault>
     ensures ok { OnOk result (out.new.items ≡ out.old.items ++ spelling.u2 count) }
     ensures few { OnOk result (count < 2 ^ 16) }
-    ensures fault { IfErr result (λ e. Refuses e (unless (nat_lt count (2 ^ 16)) (faults.TooLarge part))) }
+    ensures fault { IfErr result
+        (λ e. Refuses e (unless (nat_lt count (2 ^ 16)) (faults.TooLarge part))) }
 {
     if count > GREATEST_COUNT {
         return Err(WriteFault::TooLarge(part));
@@ -73,7 +75,8 @@ pub(crate) fn write_counted<W: WriteItem>(
     part: Part,
     items: &[W::Item],
 ) -> Result<(), WriteFault>
-    ensures ok { OnOk result (out.new.items ≡ out.old.items ++ spelling.counted (W.text writer.now) items.now) }
+    ensures ok { OnOk result (out.new.items ≡ out.old.items
+        ++ spelling.counted (W.text writer.now) items.now) }
     ensures shaped { OnOk result (IsCounted (W.is_shaped writer.now) items.now) }
     ensures none { OnOk result (counted part (W.misfit writer.now) items.now ≡ None) }
     ensures fault { IfErr result (λ e. Refuses e (counted part (W.misfit writer.now) items.now)) }

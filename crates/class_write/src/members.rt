@@ -18,8 +18,10 @@ use std::alloc::Global;
 
 /// Enters a member behind those before it, and tells whether one of them has its name and descriptor.
 fn enter<'a>(seen: &mut MemberKeys<'a>, pool: &'a Pool, member: &Member) -> Result<bool, WriteFault>
-    ensures double { (before : List Member) → HasSeen pool.now before seen.old → IfOk result (λ double. list_any (are_same pool.now member.now) before ≡ double) }
-    ensures seen { (before : List Member) → HasSeen pool.now before seen.old → OnOk result (HasSeen pool.now (before ++ member.now ∷ []) seen.new) }
+    ensures double { (before : List Member) → HasSeen pool.now before seen.old
+        → IfOk result (λ double. list_any (are_same pool.now member.now) before ≡ double) }
+    ensures seen { (before : List Member) → HasSeen pool.now before seen.old
+        → OnOk result (HasSeen pool.now (before ++ member.now ∷ []) seen.new) }
     ensures memory { IsOkUnless result WriteFault.Memory }
 {
     let added = seen.insert(pool, member.name, member.descriptor)?;
@@ -53,7 +55,8 @@ fn told(doubles: &[bool], number: u32) -> bool
 
 /// Writes the flags, the name and the descriptor.
 fn put_head(out: &mut Vec<u8>, member: &Member) -> Result<(), WriteFault>
-    ensures ok { OnOk result (out.new.items ≡ out.old.items ++ spelling.u2 member.now.flags ++ spelling.u2 member.now.name ++ spelling.u2 member.now.descriptor) }
+    ensures ok { OnOk result (out.new.items ≡ out.old.items ++ spelling.u2 member.now.flags
+        ++ spelling.u2 member.now.name ++ spelling.u2 member.now.descriptor) }
     ensures flags { OnOk result (member.now.flags < 2 ^ 16) }
     ensures memory { IsOkUnless result WriteFault.Memory }
 {
@@ -83,7 +86,8 @@ impl WriteItem for FieldWriter<'_> {
 
     ghost is_shaped = { λ s. IsField s.pool.now };
 
-    ghost misfit = { λ s number. misfits.field s.pool.now (slice_index_or s.doubles.now number false) number };
+    ghost misfit = { λ s number. misfits.field s.pool.now
+        (slice_index_or s.doubles.now number false) number };
 
     #[tactic(auto, using(crate::proofs::Faults::faults), unfolding(crate::specs::Misfits::field, class_model::specs::Spelling::member))]
     fn write(&self, out: &mut Vec<u8>, number: u32, item: &Member) -> Result<(), WriteFault> {
@@ -112,7 +116,8 @@ pub(crate) fn put_fields(
     pool: &Pool,
     fields: &[Member],
 ) -> Result<(), WriteFault>
-    ensures ok { OnOk result (out.new.items ≡ out.old.items ++ spelling.counted spelling.member fields.now) }
+    ensures ok { OnOk result (out.new.items ≡ out.old.items
+        ++ spelling.counted spelling.member fields.now) }
     ensures shaped { OnOk result (IsMembers (IsField pool.now) pool.now fields.now) }
     ensures none { OnOk result (misfits.fields pool.now fields.now ≡ None) }
     ensures fault { IfErr result (λ e. Refuses e (misfits.fields pool.now fields.now)) }
@@ -154,7 +159,8 @@ impl WriteItem for MethodWriter<'_> {
 
     ghost is_shaped = { λ s. IsMethod s.pool.now };
 
-    ghost misfit = { λ s number. misfits.method s.pool.now (slice_index_or s.doubles.now number false) number };
+    ghost misfit = { λ s number. misfits.method s.pool.now
+        (slice_index_or s.doubles.now number false) number };
 
     #[tactic(auto, using(crate::proofs::Faults::faults), unfolding(crate::specs::Misfits::method, class_model::specs::Spelling::member))]
     fn write(&self, out: &mut Vec<u8>, number: u32, item: &Member) -> Result<(), WriteFault> {
@@ -187,7 +193,8 @@ pub(crate) fn put_methods(
     pool: &Pool,
     methods: &[Member],
 ) -> Result<(), WriteFault>
-    ensures ok { OnOk result (out.new.items ≡ out.old.items ++ spelling.counted spelling.member methods.now) }
+    ensures ok { OnOk result (out.new.items ≡ out.old.items
+        ++ spelling.counted spelling.member methods.now) }
     ensures shaped { OnOk result (IsMembers (IsMethod pool.now) pool.now methods.now) }
     ensures none { OnOk result (misfits.methods pool.now methods.now ≡ None) }
     ensures fault { IfErr result (λ e. Refuses e (misfits.methods pool.now methods.now)) }

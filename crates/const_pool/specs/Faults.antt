@@ -1,5 +1,6 @@
 -- What a refusal says of the bytes.
 use Rattle.std.specs.Prelude.{◌≡◌, ◌⊎◌, ◌++◌, ℕ, Bool, List, Result, Ok, Err}
+use denote.Ref.{Bor}
 use Rattle.class_text.specs.Reading.{Badness, Fault, cut_short, bad_tag, bad_text, bad_index, astray, bad_magic, bad_major, bad_attribute, second_attribute, code_missing, bytes_left, Reading}
 use Rattle.const_pool.specs.declared.class_fault.ClassFault.{ClassFault}
 use Rattle.const_pool.specs.declared.class_fault.ClassFault.TheVariants.{BadMagic, BadMajor, CutShort, BadTag, BadUtf8, BadIndex, BadAttribute, SecondAttribute, CodeMissing, BytesLeft, Memory}
@@ -26,6 +27,10 @@ Fails fault reading = IsOf (λ f. reading ≡ Err f) fault
 abbrev pub Gives : {X A : Type 0} → (X → A) → Result X ClassFault → Result A Fault → Type 0
 Gives view (Ok x) reading = reading ≡ Ok (view x)
 Gives view (Err e) reading = Fails e reading
+
+-- the same of what stands at the front of bytes, with the bytes after it
+abbrev pub GivesFront : {A : Type 0} → Result (A × Bor (List ℕ)) ClassFault → Reading A → Type 0
+GivesFront result reading = Gives (λ r. (r.0, r.1.now)) result reading
 
 -- a value with a fact, unless memory ran out
 abbrev pub IsOkUnlessMemory : {A : Type 0} → (A → Type 0) → Result A ClassFault → Type 0

@@ -95,7 +95,8 @@ impl JudgedPool {
 
     /// Whether the descriptor of a static method stands there, or of one with `this`.
     pub fn is_method_type(&self, is_static: bool, index: u16) -> bool
-        ensures { result ≡ is_some_that (is_method_descriptor (if is_static then 255 else 254)) (text_at self.now index) }
+        ensures { result ≡ is_some_that (is_method_descriptor (if is_static then 255 else 254))
+            (text_at self.now index) }
     {
         self.texts.is_method_type(&self.pool, is_static, index)
     }

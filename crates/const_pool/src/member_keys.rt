@@ -33,11 +33,16 @@ impl<'a> MemberKeys<'a> {
 
     /// Enters a name and a descriptor by their indices, and tells whether no member before has both.
     pub fn insert(&mut self, pool: &'a Pool, name: u16, descriptor: u16) -> Result<bool, AllocError>
-        ensures added { (before : List Member) (m : Member) → m.name ≡ name → m.descriptor ≡ descriptor
-            → HasSeen pool.now before self.old → IfOk result (λ added. added ≡ not (list_any (are_same pool.now m) before)) }
-        ensures seen { (before : List Member) (m : Member) → m.name ≡ name → m.descriptor ≡ descriptor
-            → HasSeen pool.now before self.old → OnOk result (HasSeen pool.now (before ++ m ∷ []) self.new) }
-        ensures same { (before : List Member) → HasSeen pool.now before self.old → OnErr result (HasSeen pool.now before self.new) }
+        ensures added { (before : List Member) (m : Member) → m.name ≡ name
+            → m.descriptor ≡ descriptor
+            → HasSeen pool.now before self.old
+            → IfOk result (λ added. added ≡ not (list_any (are_same pool.now m) before)) }
+        ensures seen { (before : List Member) (m : Member) → m.name ≡ name
+            → m.descriptor ≡ descriptor
+            → HasSeen pool.now before self.old
+            → OnOk result (HasSeen pool.now (before ++ m ∷ []) self.new) }
+        ensures same { (before : List Member) → HasSeen pool.now before self.old
+            → OnErr result (HasSeen pool.now before self.new) }
     {
         let name = self.numbers.number_of(pool, name)?;
         let descriptor = self.numbers.number_of(pool, descriptor)?;

@@ -8,7 +8,7 @@ ghost use Rattle.class_model.specs.Spelling as spelling;
 ghost use Rattle.class_text.specs.Pool.{constant_of_two, method_handle_at, fixed_at, is_tag, is_wide, utf8_at, constant_at_front, constants_at, wrong_at, judged, pool_at};
 ghost use Rattle.class_text.specs.Meanings.{IsMeantInPool};
 ghost use Rattle.const_pool.specs.TextForms.{IsTableOf};
-ghost use Rattle.const_pool.specs.Faults.{Gives, IsOf, Fails, IsOkUnlessMemory, with_front};
+ghost use Rattle.const_pool.specs.Faults.{GivesFront, IsOf, Fails, IsOkUnlessMemory, with_front};
 
 use crate::class_fault::ClassFault;
 use crate::judged_pool::JudgedPool;
@@ -37,7 +37,8 @@ fn handle_in(bytes: &[u8]) -> Option<(Constant, &[u8])>
 }
 
 fn name_type_in(bytes: &[u8]) -> Option<(Constant, &[u8])>
-    ensures { option_map (λ r. (r.0, r.1.now)) result ≡ constant_of_two Constant.NameType bytes.now }
+    ensures { option_map (λ r. (r.0, r.1.now)) result
+        ≡ constant_of_two Constant.NameType bytes.now }
 {
     let (name, rest) = u2_in(bytes)?;
     let (descriptor, rest) = u2_in(rest)?;
@@ -45,7 +46,8 @@ fn name_type_in(bytes: &[u8]) -> Option<(Constant, &[u8])>
 }
 
 fn dynamic_in(bytes: &[u8]) -> Option<(Constant, &[u8])>
-    ensures { option_map (λ r. (r.0, r.1.now)) result ≡ constant_of_two Constant.InvokeDynamic bytes.now }
+    ensures { option_map (λ r. (r.0, r.1.now)) result
+        ≡ constant_of_two Constant.InvokeDynamic bytes.now }
 {
     let (bootstrap, rest) = u2_in(bytes)?;
     let (name_type, rest) = u2_in(rest)?;
@@ -57,7 +59,8 @@ fn dynamic_in(bytes: &[u8]) -> Option<(Constant, &[u8])>
 }
 
 fn ref_in(tag: u8, bytes: &[u8]) -> Option<(Constant, &[u8])>
-    ensures { option_map (λ r. (r.0, r.1.now)) result ≡ constant_of_two (Constant.Ref tag) bytes.now }
+    ensures { option_map (λ r. (r.0, r.1.now)) result
+        ≡ constant_of_two (Constant.Ref tag) bytes.now }
 {
     let (class, rest) = u2_in(bytes)?;
     let (name_type, rest) = u2_in(rest)?;
@@ -117,7 +120,7 @@ fn fixed_in(tag: u8, bytes: &[u8]) -> Option<(Constant, &[u8])>
 /// A text behind its length, of the constant at a place.
 #[tactic(auto, unfolding(class_text::specs::Pool::utf8_at))]
 fn utf8_in(alloc: Global, at: u32, bytes: &[u8]) -> Result<(Constant, &[u8]), ClassFault>
-    ensures { Gives (λ r. (r.0, r.1.now)) result (utf8_at at bytes.now) }
+    ensures { GivesFront result (utf8_at at bytes.now) }
 {
     let Some((len, rest)) = u2_in(bytes) else {
         return Err(ClassFault::CutShort(at));
@@ -160,7 +163,7 @@ fn constant_in(
     left: u16,
     bytes: &[u8],
 ) -> Result<(Constant, &[u8]), ClassFault>
-    ensures { Gives (λ r. (r.0, r.1.now)) result (constant_at_front end left bytes.now) }
+    ensures { GivesFront result (constant_at_front end left bytes.now) }
 {
     let at = offset_of(end, bytes);
     let Some((tag, rest)) = bytes.split_first() else {
@@ -202,8 +205,11 @@ fn step<'a>(
     bytes: &'a [u8],
 ) -> Result<(bool, &'a [u8]), ClassFault>
     requires { 0 < left }
-    ensures step { IfOk result (λ r. with_front constants.new (constants_at end r.0 (left - 1) r.1.now) ≡ with_front constants.old (constants_at end due left bytes.now)) }
-    ensures fault { IfErr result (λ e. Fails e (with_front constants.old (constants_at end due left bytes.now))) }
+    ensures step { IfOk result
+        (λ r. with_front constants.new (constants_at end r.0 (left - 1) r.1.now)
+        ≡ with_front constants.old (constants_at end due left bytes.now)) }
+    ensures fault { IfErr result
+        (λ e. Fails e (with_front constants.old (constants_at end due left bytes.now))) }
 {
     if due {
         constants.push(Constant::Second)?;
@@ -226,7 +232,7 @@ fn constants_in(
     numbers: u16,
     bytes: &[u8],
 ) -> Result<(Constants, &[u8]), ClassFault>
-    ensures { Gives (λ r. (r.0, r.1.now)) result (constants_at end false numbers bytes.now) }
+    ensures { GivesFront result (constants_at end false numbers bytes.now) }
 {
     let mut constants = items_with_room(alloc, numbers, bytes.len(), 3)?;
     let mut rest = bytes;
@@ -290,7 +296,7 @@ fn judge(
     after: &[u8],
 ) -> Result<(JudgedPool, &[u8]), ClassFault>
     requires { at + length (flat_map spelling.constant pool.constants) < 2 ^ 32 }
-    ensures { Gives (λ r. (r.0, r.1.now)) result (judged at (pool.constants, after.entry.now)) }
+    ensures { GivesFront result (judged at (pool.constants, after.entry.now)) }
 {
     let texts = TextTable::of(alloc, &pool)?;
     match wrong_in(&pool, &texts, at) {
@@ -303,7 +309,7 @@ fn judge(
 #[tactic(auto, unfolding(class_text::specs::Pool::pool_at))]
 fn pool_in(alloc: Global, end: u32, bytes: &[u8]) -> Result<(JudgedPool, &[u8]), ClassFault>
     requires { length bytes.now ≤ end }
-    ensures { Gives (λ r. (r.0, r.1.now)) result (pool_at end bytes.now) }
+    ensures { GivesFront result (pool_at end bytes.now) }
 {
     let at = offset_of(end, bytes);
     let Some((count, rest)) = u2_in(bytes) else {
@@ -324,9 +330,12 @@ pub fn read_pool(alloc: Global, bytes: &[u8], at: u32) -> Result<(JudgedPool, u3
     requires small { length bytes.now < 2 ^ 32 }
     requires within { at ≤ length bytes.now }
     // What is read is a pool, and is spelled there.
-    ensures found { IfOk result (λ r. IsPool r.0 × (drop at bytes.now ≡ spelling.pool r.0 ++ drop r.1 bytes.now) × (r.1 ≤ length bytes.now)) }
+    ensures found { IfOk result (λ r. IsPool r.0
+        × (drop at bytes.now ≡ spelling.pool r.0 ++ drop r.1 bytes.now)
+        × (r.1 ≤ length bytes.now)) }
     // What is spelled there is read.
-    ensures only { (pool : Pool) (rest : List ℕ) → IsPool pool → drop at bytes.now ≡ spelling.pool pool ++ rest
+    ensures only { (pool : Pool) (rest : List ℕ) → IsPool pool
+        → drop at bytes.now ≡ spelling.pool pool ++ rest
         → IsOkUnlessMemory (λ r. (r.0 ≡ pool) × (drop r.1 bytes.now ≡ rest)) result }
     // A refusal is the first bad place.
     ensures fault { IfErr result (λ e. Fails e (pool_at (length bytes.now) (drop at bytes.now))) }

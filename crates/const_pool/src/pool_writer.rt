@@ -137,14 +137,16 @@ fn put_long(out: &mut Vec<u8>, tag: u8, n: u64) -> Result<(), AllocError>
 }
 
 fn put_pair(out: &mut Vec<u8>, tag: u8, m: u16, n: u16) -> Result<(), AllocError>
-    ensures { OnOk result (out.new.items ≡ out.old.items ++ (tag ∷ to_be_bytes w16 m ++ to_be_bytes w16 n)) }
+    ensures { OnOk result (out.new.items ≡ out.old.items
+        ++ (tag ∷ to_be_bytes w16 m ++ to_be_bytes w16 n)) }
 {
     put_index(out, tag, m)?;
     put_u2(out, n)
 }
 
 fn put_handle(out: &mut Vec<u8>, kind: u8, reference: u16) -> Result<(), AllocError>
-    ensures { OnOk result (out.new.items ≡ out.old.items ++ (METHOD_HANDLE_TAG ∷ kind ∷ to_be_bytes w16 reference)) }
+    ensures { OnOk result (out.new.items ≡ out.old.items
+        ++ (METHOD_HANDLE_TAG ∷ kind ∷ to_be_bytes w16 reference)) }
 {
     out.push(METHOD_HANDLE_TAG)?;
     put_index(out, kind, reference)
@@ -152,7 +154,8 @@ fn put_handle(out: &mut Vec<u8>, kind: u8, reference: u16) -> Result<(), AllocEr
 
 fn put_text(out: &mut Vec<u8>, text: &[u8]) -> Result<(), AllocError>
     requires { length text.now < 2 ^ 16 }
-    ensures { OnOk result (out.new.items ≡ out.old.items ++ (UTF8_TAG ∷ to_be_bytes w16 (length text.now) ++ text.now)) }
+    ensures { OnOk result (out.new.items ≡ out.old.items
+        ++ (UTF8_TAG ∷ to_be_bytes w16 (length text.now) ++ text.now)) }
 {
     put_index(out, UTF8_TAG, text.len() as u16)?;
     out.extend_from_slice(text)
@@ -226,7 +229,8 @@ fn put_all(out: &mut Vec<u8>, pool: &Pool, texts: &TextTable) -> Result<(), Writ
     requires texts { IsTableOf pool.now texts.now }
     ensures none { OnOk result (misfit_from pool.now 1 false pool.now.constants ≡ None) }
     ensures fits { OnOk result (AllByRecursion IsConstant pool.now.constants) }
-    ensures ok { OnOk result (out.new.items ≡ out.old.items ++ flat_map spelling.constant pool.now.constants) }
+    ensures ok { OnOk result (out.new.items ≡ out.old.items
+        ++ flat_map spelling.constant pool.now.constants) }
     ensures fault { IfErr result (λ e. Names e (misfit_from pool.now 1 false pool.now.constants)) }
 {
     let constants = pool.constants.as_slice();

@@ -44,7 +44,8 @@ fn takes_tag(kind: u8, tag: u8) -> bool
 }
 
 fn is_reference(pool: &Pool, kind: u8, number: u16) -> bool
-    ensures { result ≡ is_some_that (is_reference (handle_tags kind)) (constant_at pool.now number) }
+    ensures { result ≡ is_some_that (is_reference (handle_tags kind))
+        (constant_at pool.now number) }
 {
     match pool.constant(number) {
         Some(Constant::Ref { tag, .. }) => takes_tag(kind, *tag),

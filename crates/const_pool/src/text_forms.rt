@@ -159,7 +159,8 @@ impl TextTable {
     /// Whether the name of a class stands there, of an array class its descriptor.
     pub fn is_class_text(&self, pool: &Pool, number: u16) -> bool
         requires { IsTableOf pool.now self.now }
-        ensures { result ≡ is_some_that (λ n. is_class_name n || is_array_descriptor n) (text_at pool.now number) }
+        ensures { result ≡ is_some_that (λ n. is_class_name n || is_array_descriptor n)
+            (text_at pool.now number) }
     {
         let forms = self.forms(pool, number);
         forms.is_class_name || forms.is_array
@@ -182,7 +183,8 @@ impl TextTable {
     /// Whether the descriptor of a static method stands there, or of one with `this`.
     pub fn is_method_type(&self, pool: &Pool, is_static: bool, number: u16) -> bool
         requires { IsTableOf pool.now self.now }
-        ensures { result ≡ is_some_that (is_method_descriptor (if is_static then 255 else 254)) (text_at pool.now number) }
+        ensures { result ≡ is_some_that (is_method_descriptor (if is_static then 255 else 254))
+            (text_at pool.now number) }
     {
         let forms = self.forms(pool, number);
         if is_static {
@@ -195,7 +197,8 @@ impl TextTable {
     /// Whether a name of a field or method stands there, and its descriptor at another number.
     pub fn is_member(&self, pool: &Pool, name: u16, descriptor: u16) -> bool
         requires { IsTableOf pool.now self.now }
-        ensures { result ≡ is_some_that (λ n. is_some_that (is_name_with n) (text_at pool.now descriptor)) (text_at pool.now name) }
+        ensures { result ≡ is_some_that (λ n. is_some_that (is_name_with n)
+            (text_at pool.now descriptor)) (text_at pool.now name) }
     {
         let name = self.forms(pool, name);
         let descriptor = self.forms(pool, descriptor);

@@ -17,7 +17,8 @@ fn number_of_text<'a>(
     fresh: u16,
 ) -> Result<u16, AllocError>
     ensures number { IfOk result (λ number. number_by numbers.new text.now ≡ Some number) }
-    ensures kept { (other : List ℕ) (number : ℕ) → number_by numbers.old other ≡ Some number → number_by numbers.new other ≡ Some number }
+    ensures kept { (other : List ℕ) (number : ℕ) → number_by numbers.old other ≡ Some number
+        → number_by numbers.new other ≡ Some number }
     ensures added { (other : List ℕ) (number : ℕ) → number_by numbers.new other ≡ Some number
         → (number_by numbers.old other ≡ Some number) ⊎ ((other ≡ text.now) × (number ≡ fresh)) }
 {
@@ -54,7 +55,9 @@ impl<'a> TextNumbers<'a> {
 
     /// The number of a constant's text.
     pub(crate) fn number_of(&mut self, pool: &'a Pool, constant: u16) -> Result<u16, AllocError>
-        ensures number { AreNumbersOf pool.now self.old → IfOk result (λ number. number_in self.new (text_or_empty pool.now constant) ≡ Some number) }
+        ensures number { AreNumbersOf pool.now self.old
+            → IfOk result (λ number. number_in self.new (text_or_empty pool.now constant)
+            ≡ Some number) }
         ensures grows { AreNumbersOf pool.now self.old → Grows pool.now self.old self.new }
     {
         if let Some(number) = self.by_constant.get(&constant) {
