@@ -14,7 +14,7 @@ use Rattle.mill_top.specs.declared.outcome.Outcome.{Outcome}
 use Rattle.mill_top.specs.declared.recorded.Record.{Record}
 use Rattle.mill_top.specs.declared.reply.Reply.{Reply}
 use Rattle.mill_top.specs.declared.reply.Reply.TheVariants.{Value, NoTask, StoreFault, Memory}
-use Rattle.mill_top.specs.declared.takes.Found.{Found}
+use Rattle.mill_top.specs.declared.takes.FoundEntry.{FoundEntry}
 use Rattle.mill_top.specs.declared.task_file.TaskFile.{TaskFile}
 use Rattle.mill_top.specs.Graphs.{build_graph, named, task_in, refusal_of_build, plan, plan_in, task_name}
 use Rattle.mill_top.specs.Loading.{IsUnloaded}
@@ -36,12 +36,12 @@ accepted_by task None (Some own) e = (refl, (own, refl))
 
 -- ---- an answer, by whether the record is refused
 
-by_evaluated : (inputs : Record) (task : List ℕ) (before now : ℕ) (numbers : Numbers) (old new : Option Files) (reply : Reply) (takes : List (List ℕ × Found)) (r : Option Reply) → r ≡ None
+by_evaluated : (inputs : Record) (task : List ℕ) (before now : ℕ) (numbers : Numbers) (old new : Option Files) (reply : Reply) (takes : List (List ℕ × FoundEntry)) (r : Option Reply) → r ≡ None
     → IsEvaluated inputs task before now numbers old new reply takes
     → MatchOption r (IsEvaluated inputs task before now numbers old new reply takes) (λ refused. IsRefused refused old new reply takes)
 by_evaluated inputs task before now numbers old new reply takes r none h = rw none h
 
-pub evaluated_answer : (inputs : Record) (task : List ℕ) (before now : ℕ) (numbers : Numbers) (old new : Option Files) (reply : Reply) (takes : List (List ℕ × Found)) → refusal inputs task ≡ None
+pub evaluated_answer : (inputs : Record) (task : List ℕ) (before now : ℕ) (numbers : Numbers) (old new : Option Files) (reply : Reply) (takes : List (List ℕ × FoundEntry)) → refusal inputs task ≡ None
     → IsEvaluated inputs task before now numbers old new reply takes → IsAnswerOfLoaded inputs task before now numbers old new reply takes
 evaluated_answer inputs task before now numbers old new reply takes accepted h = by_evaluated inputs task before now numbers old new reply takes (refusal inputs task) accepted h
 
@@ -77,7 +77,7 @@ nothing_answer inputs task before now numbers content reply (inr is) = by_refuse
 given_first : (take : Take) (earlier : List Take) → given (take ∷ earlier) take.task ≡ Some take.value
 given_first take earlier = rw ((bytes_eq-Decides take.task take.task).1 refl) refl
 
-last_value : (inputs : Record) (task : List ℕ) (file : TaskFile) (front : List TaskFile) (numbers : Numbers) (old new : Option Files) (takes : List (List ℕ × Found)) (done : List Take) (value : ℤ)
+last_value : (inputs : Record) (task : List ℕ) (file : TaskFile) (front : List TaskFile) (numbers : Numbers) (old new : Option Files) (takes : List (List ℕ × FoundEntry)) (done : List Take) (value : ℤ)
     → task ≡ task_name file → plan inputs.files task ≡ front ++ file ∷ []
     → AreTaken inputs (plan inputs.files task) numbers old takes done [] → new ≡ after_takes done old → Some value ≡ latest_value done → IsValue task old new done [] value
 last_value inputs task file front numbers old new takes [] value name ends taken out last = cc
@@ -94,7 +94,7 @@ last_value inputs task file front numbers old new takes (take ∷ earlier) value
 value_is : (value own : ℤ) → Value own ≡ Value value → own ≡ value
 value_is value own e = cc
 
-pub walked_evaluated : (inputs : Record) (task : List ℕ) (file : TaskFile) (planned : List TaskFile) (before now : ℕ) (numbers numbers_now : Numbers) (old new : Option Files) (takes : List (List ℕ × Found)) (value : ℤ)
+pub walked_evaluated : (inputs : Record) (task : List ℕ) (file : TaskFile) (planned : List TaskFile) (before now : ℕ) (numbers numbers_now : Numbers) (old new : Option Files) (takes : List (List ℕ × FoundEntry)) (value : ℤ)
     → planned ≡ plan inputs.files task → refusal_of_build inputs.files ≡ None → task_in inputs.files task ≡ Some file
     → IsWalked inputs planned numbers numbers_now old new takes [] (Some value) → IsEvaluated inputs task before now numbers old new (Value value) takes
 walked_evaluated inputs task file planned before now numbers numbers_now old new takes value is accepted known walked =
@@ -111,7 +111,7 @@ walked_evaluated inputs task file planned before now numbers numbers_now old new
       left = subst (λ content. MayLeave walked.done old content) (sym walked.out) (whole_takes walked.done old);
     }
 
-pub stopped_evaluated : (inputs : Record) (task : List ℕ) (planned : List TaskFile) (before now : ℕ) (numbers numbers_now : Numbers) (old new : Option Files) (reply : Reply) (takes : List (List ℕ × Found))
+pub stopped_evaluated : (inputs : Record) (task : List ℕ) (planned : List TaskFile) (before now : ℕ) (numbers numbers_now : Numbers) (old new : Option Files) (reply : Reply) (takes : List (List ℕ × FoundEntry))
     → planned ≡ plan inputs.files task → IsEvaluation reply → (reply ≡ StoreFault → Rose before now) → ((value : ℤ) → reply ≢ Value value)
     → IsStopped inputs planned numbers numbers_now old new takes → IsEvaluated inputs task before now numbers old new reply takes
 stopped_evaluated inputs task planned before now numbers numbers_now old new reply takes is evaluated cause no_value stopped = record {
@@ -137,7 +137,7 @@ none_taken [] names name last e = empty_push names name e
 none_taken (take ∷ earlier) names name last e = let differ : true ≡ false = ap is_none last in absurd (false≢true (sym differ))
 
 -- a plan that is walked to its end has a value
-pub walked_some : (inputs : Record) (task : List ℕ) (file : TaskFile) (planned : List TaskFile) (numbers numbers_now : Numbers) (old new : Option Files) (takes : List (List ℕ × Found))
+pub walked_some : (inputs : Record) (task : List ℕ) (file : TaskFile) (planned : List TaskFile) (numbers numbers_now : Numbers) (old new : Option Files) (takes : List (List ℕ × FoundEntry))
     → planned ≡ plan inputs.files task → refusal_of_build inputs.files ≡ None → task_in inputs.files task ≡ Some file → IsWalked inputs planned numbers numbers_now old new takes [] None → ⊥
 walked_some inputs task file planned numbers numbers_now old new takes is accepted known walked =
     let ends = plan-last inputs.files task file accepted known in

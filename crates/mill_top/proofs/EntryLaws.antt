@@ -5,7 +5,7 @@ use Rattle.value_text.specs.Short.{as_short, int}
 use Rattle.out_entry.specs.declared.entry.Entry.{Entry}
 use Rattle.out_store.specs.Generations.{Reads}
 use Rattle.out_store.proofs.StandingLaws.{one_entry}
-use Rattle.mill_top.specs.declared.takes.Found.TheVariants.{Missing, Other, Same}
+use Rattle.mill_top.specs.declared.takes.FoundEntry.TheVariants.{Missing, Other, Same}
 use Rattle.mill_top.specs.declared.outcome.Outcome.{Outcome}
 use Rattle.mill_top.specs.Takes.{ReadsInt, HoldsNoInt, Why, IsGivenBy}
 

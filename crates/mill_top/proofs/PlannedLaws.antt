@@ -7,7 +7,7 @@ use Rattle.out_store.specs.Numbers.{KnowsIn}
 use Rattle.out_store.specs.Standing.{Stands}
 use Rattle.out_store.specs.declared.numbers.Numbers.{Numbers}
 use Rattle.mill_top.specs.declared.recorded.Record.{Record}
-use Rattle.mill_top.specs.declared.takes.Found.{Found}
+use Rattle.mill_top.specs.declared.takes.FoundEntry.{FoundEntry}
 use Rattle.mill_top.specs.declared.task_file.TaskFile.{TaskFile}
 use Rattle.mill_top.specs.Words.{asked}
 use Rattle.mill_top.specs.Graphs.{refusal_of_build, plan, task_name}
@@ -66,7 +66,7 @@ all_from_runs inputs numbers files (take ∷ earlier) given scratches = (
   all_from_runs inputs numbers files earlier given.1 scratches.1,
 )
 
-pub taken_stands : (inputs : Record) (task : List ℕ) (planned : List TaskFile) (numbers numbers_now : Numbers) (old new : Option Files) (takes : List (List ℕ × Found)) (done : List Take) (rest : List TaskFile) (runs : List Run) (lost : List (List ℕ))
+pub taken_stands : (inputs : Record) (task : List ℕ) (planned : List TaskFile) (numbers numbers_now : Numbers) (old new : Option Files) (takes : List (List ℕ × FoundEntry)) (done : List Take) (rest : List TaskFile) (runs : List Run) (lost : List (List ℕ))
     → planned ≡ plan inputs.files task → refusal_of_build inputs.files ≡ None → asked inputs.words ≡ Some task → (IsSome old → KnowsIn old numbers)
     → AreTaken inputs planned numbers old takes done rest → LeavesStanding numbers numbers_now old new (rows_put done)
     → StandsIn old runs lost → Clean (all_texts inputs runs) → StandsIn new (runs ++ runs_of inputs takes) lost

@@ -10,8 +10,8 @@ use Rattle.out_store.specs.Standing as rows
 use Rattle.mill_top.specs.declared.outcome.Outcome.{Outcome}
 use Rattle.mill_top.specs.declared.outcome.Outcome.TheVariants.{Returns}
 use Rattle.mill_top.specs.declared.recorded.Record.{Record}
-use Rattle.mill_top.specs.declared.takes.Found.{Found}
-use Rattle.mill_top.specs.declared.takes.Found.TheVariants.{Missing, Other, Same}
+use Rattle.mill_top.specs.declared.takes.FoundEntry.{FoundEntry}
+use Rattle.mill_top.specs.declared.takes.FoundEntry.TheVariants.{Missing, Other, Same}
 use Rattle.mill_top.specs.Inputs.{Run, input_hash, scratch_values}
 use Rattle.mill_top.specs.Leaving.{finished_of}
 use Rattle.mill_top.specs.Scratch.{scratch}
@@ -42,7 +42,7 @@ run_among : (inputs : Record) (take : Take) (outcome : Option Outcome) (row : Ro
 run_among inputs take None row is from among = let none : None ≡ Some (Returns take.value from.0.0) = sym is ∙ from.0.1 in cc
 run_among inputs take (Some outcome) row is from among = subst (λ all. Contains all row) (row_is inputs take from) among
 
-one_among : (inputs : Record) (take : Take) (found : Found) (outcome : Option Outcome) (row : Row) → scratch inputs take.task ≡ outcome → IsFromRun inputs take → Contains (row_put found take) row
+one_among : (inputs : Record) (take : Take) (found : FoundEntry) (outcome : Option Outcome) (row : Row) → scratch inputs take.task ≡ outcome → IsFromRun inputs take → Contains (row_put found take) row
     → Contains (rows_of (run_of inputs take.task found outcome)) row
 one_among inputs take (Same d) outcome row is from among = among
 one_among inputs take Missing outcome row is from among = run_among inputs take outcome row is from among

@@ -16,8 +16,8 @@ use Rattle.out_store.proofs.ChangeLaws.{not_begun}
 use Rattle.out_store.proofs.PublishStands.{more_in}
 use Rattle.mill_top.specs.declared.outcome.Outcome.{Outcome}
 use Rattle.mill_top.specs.declared.outcome.Outcome.TheVariants.{Returns}
-use Rattle.mill_top.specs.declared.takes.Found.{Found}
-use Rattle.mill_top.specs.declared.takes.Found.TheVariants.{Missing, Other, Same}
+use Rattle.mill_top.specs.declared.takes.FoundEntry.{FoundEntry}
+use Rattle.mill_top.specs.declared.takes.FoundEntry.TheVariants.{Missing, Other, Same}
 use Rattle.mill_top.specs.Leaving.{finished_by, finished_of, after, MayLeaveAfter}
 use Rattle.mill_top.specs.Takes.{Why, IsNew, Take, seen, IsGivenBy, IsPutUnder, IsTakeOf}
 use Rattle.mill_top.specs.Walks.{OthersUse, LeavesStanding, IsPut, row_put, IsUntaken, IsEnd, IsTaken, IsStep, HasNext}
@@ -26,33 +26,33 @@ use Rattle.mill_top.proofs.NumberLaws.{if_any, takes_others}
 
 -- ---- a run
 
-new_given : (content : Option Files) (task : List ℕ) (found : Found) (value : ℤ) → IsNew found → IsGivenBy content task found (Returns value []) value
+new_given : (content : Option Files) (task : List ℕ) (found : FoundEntry) (value : ℤ) → IsNew found → IsGivenBy content task found (Returns value []) value
 new_given content task Missing value new = ([], refl)
 new_given content task (Other d) value new = ([], refl)
 new_given content task (Same d) value new = absurd new
 
-new_under : (numbers : Numbers) (content : Option Files) (task : List ℕ) (found : Found) (number : ℕ) → IsNew found → IfSome content (λ files. IsNext numbers task number) → IsPutUnder numbers content task found number
+new_under : (numbers : Numbers) (content : Option Files) (task : List ℕ) (found : FoundEntry) (number : ℕ) → IsNew found → IfSome content (λ files. IsNext numbers task number) → IsPutUnder numbers content task found number
 new_under numbers content task Missing number new next = next
 new_under numbers content task (Other d) number new next = next
 new_under numbers content task (Same d) number new next = absurd new
 
-new_after : (found : Found) (take : Take) (old : Option Files) → IsNew found → puts_in (puts_of (finished_of take) take.generation) old ≡ after found take old
+new_after : (found : FoundEntry) (take : Take) (old : Option Files) → IsNew found → puts_in (puts_of (finished_of take) take.generation) old ≡ after found take old
 new_after Missing take old new = refl
 new_after (Other d) take old new = refl
 new_after (Same d) take old new = absurd new
 
-new_left : (found : Found) (take : Take) (old new : Option Files) → IsNew found → LeftByPuts (puts_of (finished_of take) take.generation) old new → MayLeaveAfter found take old new
+new_left : (found : FoundEntry) (take : Take) (old new : Option Files) → IsNew found → LeftByPuts (puts_of (finished_of take) take.generation) old new → MayLeaveAfter found take old new
 new_left Missing take old new is_new left = left
 new_left (Other d) take old new is_new left = left
 new_left (Same d) take old new is_new left = absurd is_new
 
-new_rows : (found : Found) (take : Take) → IsNew found → row_of (finished_of take) ∷ [] ≡ row_put found take
+new_rows : (found : FoundEntry) (take : Take) → IsNew found → row_of (finished_of take) ∷ [] ≡ row_put found take
 new_rows Missing take new = refl
 new_rows (Other d) take new = refl
 new_rows (Same d) take new = absurd new
 
 -- a run is a take under this number
-run_taken : (task input : List ℕ) (value : ℤ) (found : Found) (number : ℕ) (numbers numbers_now : Numbers) (old new : Option Files) (result : Result ℤ OutFault) (takes takes_now : List (List ℕ × Found))
+run_taken : (task input : List ℕ) (value : ℤ) (found : FoundEntry) (number : ℕ) (numbers numbers_now : Numbers) (old new : Option Files) (result : Result ℤ OutFault) (takes takes_now : List (List ℕ × FoundEntry))
     → IsNew found → IfSome old (λ files. Why files task input found) → IfSome old (λ files. IsNext numbers task number) → takes_now ≡ takes ++ (task, found) ∷ []
     → IsEnd (record { task = task; input = input; found = found; value = value; generation = number }) old new result
     → OthersUse task numbers numbers_now → LeavesStanding numbers numbers_now old new (row_of (finished_by task input (Returns value [])) ∷ [])
@@ -74,7 +74,7 @@ run_taken task input value found number numbers numbers_now old new result takes
       rows = subst (λ own. LeavesStanding numbers numbers_now old new own) (new_rows found take is_new) rows;
     })
 
-put_step : (task input : List ℕ) (value : ℤ) (found : Found) (number : ℕ) (numbers numbers_now : Numbers) (old new : Option Files) (takes takes_now : List (List ℕ × Found))
+put_step : (task input : List ℕ) (value : ℤ) (found : FoundEntry) (number : ℕ) (numbers numbers_now : Numbers) (old new : Option Files) (takes takes_now : List (List ℕ × FoundEntry))
     → IsNew found → IfSome old (λ files. Why files task input found) → takes_now ≡ takes ++ (task, found) ∷ []
     → IsPut (finished_by task input (Returns value [])) numbers numbers_now old new number
     → LeavesStanding numbers numbers_now old new (row_of (finished_by task input (Returns value [])) ∷ [])
@@ -84,7 +84,7 @@ put_step task input value found number numbers numbers_now old new takes takes_n
     run_taken task input value found number numbers numbers_now old new (Ok value) takes takes_now is_new why (if_any old _ put.next) more
     (refl, put.out ∙ new_after found take old is_new) (takes_others numbers numbers_now task number put.taken) rows
 
-pub run_step : (task input copy : List ℕ) (value : ℤ) (outcome : Outcome) (found : Found) (number : ℕ) (numbers numbers_now : Numbers) (old new : Option Files) (takes takes_now : List (List ℕ × Found))
+pub run_step : (task input copy : List ℕ) (value : ℤ) (outcome : Outcome) (found : FoundEntry) (number : ℕ) (numbers numbers_now : Numbers) (old new : Option Files) (takes takes_now : List (List ℕ × FoundEntry))
     → IsNew found → IfSome old (λ files. Why files task input found) → outcome ≡ Returns value [] → copy ≡ task → takes_now ≡ takes ++ (copy, found) ∷ []
     → IsPut (finished_by task input outcome) numbers numbers_now old new number
     → LeavesStanding numbers numbers_now old new (row_of (finished_by task input outcome) ∷ [])
@@ -99,7 +99,7 @@ some_next : (numbers : Numbers) (content : Option Files) (task : List ℕ) → H
 some_next numbers None task next = (0, tt)
 some_next numbers (Some files) task next = next
 
-refused_step : (task input : List ℕ) (value : ℤ) (found : Found) (numbers numbers_now : Numbers) (old new : Option Files) (refused : OutFault) (takes takes_now : List (List ℕ × Found))
+refused_step : (task input : List ℕ) (value : ℤ) (found : FoundEntry) (numbers numbers_now : Numbers) (old new : Option Files) (refused : OutFault) (takes takes_now : List (List ℕ × FoundEntry))
     → IsNew found → IfSome old (λ files. Why files task input found) → HasNext numbers old task → takes_now ≡ takes ++ (task, found) ∷ []
     → LeftByPublish (finished_by task input (Returns value [])) numbers numbers_now old new
     → LeavesStanding numbers numbers_now old new (row_of (finished_by task input (Returns value [])) ∷ [])
@@ -116,7 +116,7 @@ refused_step task input value found numbers numbers_now old new refused takes ta
     (new_left found take old new is_new left)
     (takes_others numbers numbers_now task number taken) rows
 
-pub run_refused : (task input copy : List ℕ) (value : ℤ) (outcome : Outcome) (found : Found) (numbers numbers_now : Numbers) (old new : Option Files) (result : Result ℤ OutFault) (takes takes_now : List (List ℕ × Found))
+pub run_refused : (task input copy : List ℕ) (value : ℤ) (outcome : Outcome) (found : FoundEntry) (numbers numbers_now : Numbers) (old new : Option Files) (result : Result ℤ OutFault) (takes takes_now : List (List ℕ × FoundEntry))
     → IsErr result → IsNew found → IfSome old (λ files. Why files task input found) → HasNext numbers old task → outcome ≡ Returns value [] → copy ≡ task → takes_now ≡ takes ++ (copy, found) ∷ []
     → LeftByPublish (finished_by task input outcome) numbers numbers_now old new
     → LeavesStanding numbers numbers_now old new (row_of (finished_by task input outcome) ∷ [])
@@ -133,7 +133,7 @@ run_refused task input copy value outcome found numbers numbers_now old new (Err
 pub unchanged : (numbers : Numbers) (content : Option Files) → LeavesStanding numbers numbers content content []
 unchanged numbers content = record { knows = λ knows. knows; stands = λ rows lost knows stands. stands }
 
-pub reuse_step : (task input : List ℕ) (outcome : Outcome) (entry : Entry) (value : ℤ) (numbers : Numbers) (content : Option Files) (result : Result ℤ OutFault) (takes takes_now : List (List ℕ × Found))
+pub reuse_step : (task input : List ℕ) (outcome : Outcome) (entry : Entry) (value : ℤ) (numbers : Numbers) (content : Option Files) (result : Result ℤ OutFault) (takes takes_now : List (List ℕ × FoundEntry))
     → IfSome content (λ files. Reads files task entry) → as_short entry.value ≡ int value → entry.input ≡ input
     → IfOk result (λ own. own ≡ value) → OnOk result (takes_now ≡ takes ++ (task, Same input) ∷ []) → OnErr result (takes_now ≡ takes)
     → IsStep task input outcome numbers numbers content content result takes takes_now

@@ -15,7 +15,7 @@ use Rattle.mill_top.specs.declared.outcome.Outcome.TheVariants.{Returns}
 use Rattle.mill_top.specs.declared.recorded.Record.{Record}
 use Rattle.mill_top.specs.declared.reply.Reply.{Reply}
 use Rattle.mill_top.specs.declared.reply.Reply.TheVariants.{Value, WordsNotBuilt, Build, NoTask, StoreFault, WorkspaceFault, Memory}
-use Rattle.mill_top.specs.declared.takes.Found.{Found}
+use Rattle.mill_top.specs.declared.takes.FoundEntry.{FoundEntry}
 use Rattle.mill_top.specs.Words.{asked}
 use Rattle.mill_top.specs.Graphs.{refusal_of_build}
 use Rattle.mill_top.specs.Inputs.{Run, texts, Clean}
@@ -31,7 +31,7 @@ use Rattle.mill_top.proofs.ValueLaws.{AreScratch, given_scratch}
 
 -- ---- a reply stays an answer where memory is wanted for its text in the end
 
-memory_instead : (inputs : Record) (task : List ℕ) (before now : ℕ) (numbers : Numbers) (old new : Option Files) (reply : Reply) (takes : List (List ℕ × Found)) (r : Option Reply)
+memory_instead : (inputs : Record) (task : List ℕ) (before now : ℕ) (numbers : Numbers) (old new : Option Files) (reply : Reply) (takes : List (List ℕ × FoundEntry)) (r : Option Reply)
     → MatchOption r (IsEvaluated inputs task before now numbers old new reply takes) (λ refused. IsRefused refused old new reply takes)
     → MatchOption r (IsEvaluated inputs task before now numbers old new Memory takes) (λ refused. IsRefused refused old new Memory takes)
 memory_instead inputs task before now numbers old new reply takes None h = record {
@@ -45,18 +45,18 @@ memory_instead inputs task before now numbers old new reply takes None h = recor
 }
 memory_instead inputs task before now numbers old new reply takes (Some refused) h = record { reply_is = inr refl; nothing_taken = h.nothing_taken; out = h.out }
 
-memory_answer : (inputs : Record) (task : List ℕ) (before now : ℕ) (numbers : Numbers) (old new : Option Files) (reply : Reply) (takes : List (List ℕ × Found))
+memory_answer : (inputs : Record) (task : List ℕ) (before now : ℕ) (numbers : Numbers) (old new : Option Files) (reply : Reply) (takes : List (List ℕ × FoundEntry))
     → IsAnswer inputs task before now numbers old new reply takes → IsAnswer inputs task before now numbers old new Memory takes
 memory_answer inputs task before now numbers old new reply takes (inl (fault, unloaded, h)) = inl (fault, unloaded, record { reply_is = inr refl; nothing_taken = h.nothing_taken; out = h.out })
 memory_answer inputs task before now numbers old new reply takes (inr (loaded, h)) = inr (loaded, memory_instead inputs task before now numbers old new reply takes (refusal inputs task) h)
 
-shown_answer : (inputs : Record) (task : List ℕ) (before now : ℕ) (numbers : Numbers) (old new : Option Files) (reply own : Reply) (takes : List (List ℕ × Found))
+shown_answer : (inputs : Record) (task : List ℕ) (before now : ℕ) (numbers : Numbers) (old new : Option Files) (reply own : Reply) (takes : List (List ℕ × FoundEntry))
     → IsUnlessMemory reply own → IsAnswer inputs task before now numbers old new own takes → IsAnswer inputs task before now numbers old new reply takes
 shown_answer inputs task before now numbers old new reply own takes (inl same) h = subst (λ r. IsAnswer inputs task before now numbers old new r takes) (sym same) h
 shown_answer inputs task before now numbers old new reply own takes (inr wanted) h =
     subst (λ r. IsAnswer inputs task before now numbers old new r takes) (sym wanted) (memory_answer inputs task before now numbers old new own takes h)
 
-pub shown_answer_to : (words : List (List ℕ)) (read : Option Record) (before now : ℕ) (old new : Option Files) (reply own : Reply) (takes : List (List ℕ × Found))
+pub shown_answer_to : (words : List (List ℕ)) (read : Option Record) (before now : ℕ) (old new : Option Files) (reply own : Reply) (takes : List (List ℕ × FoundEntry))
     → IsUnlessMemory reply own → IfSome read (λ inputs. IsAnswerTo words inputs before now old new own takes) → IfSome read (λ inputs. IsAnswerTo words inputs before now old new reply takes)
 shown_answer_to words None before now old new reply own takes is h = tt
 shown_answer_to words (Some inputs) before now old new reply own takes is h = record {
@@ -73,7 +73,7 @@ shown_answer_to words (Some inputs) before now old new reply own takes is h = re
 still_rose : (before mid now : ℕ) → before ≤ mid → Rose mid now → Rose before now
 still_rose before mid now later rose = omega arith
 
-loaded_before : (inputs : Record) (task : List ℕ) (before mid now : ℕ) (numbers : Numbers) (old new : Option Files) (reply : Reply) (takes : List (List ℕ × Found)) (r : Option Reply) → before ≤ mid
+loaded_before : (inputs : Record) (task : List ℕ) (before mid now : ℕ) (numbers : Numbers) (old new : Option Files) (reply : Reply) (takes : List (List ℕ × FoundEntry)) (r : Option Reply) → before ≤ mid
     → MatchOption r (IsEvaluated inputs task mid now numbers old new reply takes) (λ refused. IsRefused refused old new reply takes)
     → MatchOption r (IsEvaluated inputs task before now numbers old new reply takes) (λ refused. IsRefused refused old new reply takes)
 loaded_before inputs task before mid now numbers old new reply takes None later h = record {
@@ -87,13 +87,13 @@ loaded_before inputs task before mid now numbers old new reply takes None later 
 }
 loaded_before inputs task before mid now numbers old new reply takes (Some refused) later h = h
 
-answer_before : (inputs : Record) (task : List ℕ) (before mid now : ℕ) (numbers : Numbers) (old new : Option Files) (reply : Reply) (takes : List (List ℕ × Found)) → before ≤ mid
+answer_before : (inputs : Record) (task : List ℕ) (before mid now : ℕ) (numbers : Numbers) (old new : Option Files) (reply : Reply) (takes : List (List ℕ × FoundEntry)) → before ≤ mid
     → IsAnswer inputs task mid now numbers old new reply takes → IsAnswer inputs task before now numbers old new reply takes
 answer_before inputs task before mid now numbers old new reply takes later (inl unloaded) = inl unloaded
 answer_before inputs task before mid now numbers old new reply takes later (inr (loaded, h)) =
     inr (loaded, loaded_before inputs task before mid now numbers old new reply takes (refusal inputs task) later h)
 
-pub opened_answer : (words : List (List ℕ)) (task : List ℕ) (read : Option Record) (before mid now : ℕ) (numbers : Numbers) (old opened new : Option Files) (reply : Reply) (takes : List (List ℕ × Found))
+pub opened_answer : (words : List (List ℕ)) (task : List ℕ) (read : Option Record) (before mid now : ℕ) (numbers : Numbers) (old opened new : Option Files) (reply : Reply) (takes : List (List ℕ × FoundEntry))
     → asked words ≡ Some task → IsOpened old opened numbers → before ≤ mid
     → IfSome read (λ inputs. IsAnswer inputs task mid now numbers opened new reply takes) → IfSome read (λ inputs. IsAnswerTo words inputs before now old new reply takes)
 opened_answer words task None before mid now numbers old opened new reply takes asks opening later h = tt
@@ -127,7 +127,7 @@ workspace_cause : (P : Type 0) (reply own : Reply) → IsUnlessMemory reply own 
 workspace_cause P reply own (inl same) cause e = cause (sym same ∙ e)
 workspace_cause P reply own (inr wanted) cause e = let differs : Memory ≡ WorkspaceFault = sym wanted ∙ e in cc
 
-pub shown_unread : (words : List (List ℕ)) (before now workspace_before workspace_now : ℕ) (old new : Option Files) (reply own : Reply) (takes : List (List ℕ × Found))
+pub shown_unread : (words : List (List ℕ)) (before now workspace_before workspace_now : ℕ) (old new : Option Files) (reply own : Reply) (takes : List (List ℕ × FoundEntry))
     → IsUnlessMemory reply own → IsUnread words before now workspace_before workspace_now old new own takes → IsUnread words before now workspace_before workspace_now old new reply takes
 shown_unread words before now w v old new reply own takes is h = record {
   nothing_taken = h.nothing_taken;
@@ -175,13 +175,13 @@ record IsCase (files : Files) (runs : List Run) (lost : List (List ℕ)) (inputs
 case_clean : (files : Files) (runs : List Run) (lost : List (List ℕ)) (inputs : Record) (task : List ℕ) → IsCase files runs lost inputs task → Clean (flat_map texts (planned_runs inputs (Some task) ++ runs))
 case_clean files runs lost inputs task case = subst (λ asks. Clean (flat_map texts (planned_runs inputs asks ++ runs))) case.asks case.clean
 
-case_scratch : (files : Files) (runs : List Run) (lost : List (List ℕ)) (inputs : Record) (task : List ℕ) (before now : ℕ) (numbers : Numbers) (new : Option Files) (reply : Reply) (takes : List (List ℕ × Found))
+case_scratch : (files : Files) (runs : List Run) (lost : List (List ℕ)) (inputs : Record) (task : List ℕ) (before now : ℕ) (numbers : Numbers) (new : Option Files) (reply : Reply) (takes : List (List ℕ × FoundEntry))
     → IsCase files runs lost inputs task → refusal inputs task ≡ None → (h : IsEvaluated inputs task before now numbers (Some files) new reply takes) → AreScratch inputs h.done
 case_scratch files runs lost inputs task before now numbers new reply takes case accepted h =
     evaluated_scratch files runs lost inputs task numbers h.done h.rest (accepted_by task (refusal_of_build inputs.files) (scratch inputs task) accepted).0 case.stands
     (case_clean files runs lost inputs task case) h.taken.in_order h.taken.are_given
 
-reply_by_case : (files : Files) (runs : List Run) (lost : List (List ℕ)) (inputs : Record) (task : List ℕ) (before now : ℕ) (numbers : Numbers) (new : Option Files) (reply : Reply) (takes : List (List ℕ × Found)) (r : Option Reply)
+reply_by_case : (files : Files) (runs : List Run) (lost : List (List ℕ)) (inputs : Record) (task : List ℕ) (before now : ℕ) (numbers : Numbers) (new : Option Files) (reply : Reply) (takes : List (List ℕ × FoundEntry)) (r : Option Reply)
     → IsCase files runs lost inputs task → refusal inputs task ≡ r
     → MatchOption r (IsEvaluated inputs task before now numbers (Some files) new reply takes) (λ refused. IsRefused refused (Some files) new reply takes)
     → (reply ≡ reply_by task (refusal_of_build inputs.files) (scratch inputs task)) ⊎ IsUnlessMemory reply StoreFault
@@ -198,7 +198,7 @@ reply_by_case files runs lost inputs task before now numbers new reply takes Non
     ap (λ fault. reply_by task fault (scratch inputs task)) accepted
     ∙ valued_reply task (scratch inputs task) value (given_scratch inputs h.done task value scratches (h.value value own).is_given))
 
-from_scratch : (files : Files) (runs : List Run) (lost : List (List ℕ)) (inputs : Record) (task : List ℕ) (before now : ℕ) (numbers : Numbers) (new : Option Files) (reply : Reply) (takes : List (List ℕ × Found))
+from_scratch : (files : Files) (runs : List Run) (lost : List (List ℕ)) (inputs : Record) (task : List ℕ) (before now : ℕ) (numbers : Numbers) (new : Option Files) (reply : Reply) (takes : List (List ℕ × FoundEntry))
     → IsCase files runs lost inputs task → IsAnswer inputs task before now numbers (Some files) new reply takes → IsFromScratch inputs reply
 from_scratch files runs lost inputs task before now numbers new reply takes case (inl (fault, unloaded, h)) =
     elim h.reply_is [
@@ -211,13 +211,13 @@ from_scratch files runs lost inputs task before now numbers new reply takes case
       | inr other ↦ inr other
     ]
 
-from_scratch_opened : (opened : Option Files) (runs : List Run) (lost : List (List ℕ)) (inputs : Record) (task : List ℕ) (before now : ℕ) (numbers : Numbers) (new : Option Files) (reply : Reply) (takes : List (List ℕ × Found))
+from_scratch_opened : (opened : Option Files) (runs : List Run) (lost : List (List ℕ)) (inputs : Record) (task : List ℕ) (before now : ℕ) (numbers : Numbers) (new : Option Files) (reply : Reply) (takes : List (List ℕ × FoundEntry))
     → StandsIn opened runs lost → asked inputs.words ≡ Some task → Clean (all_texts inputs runs) → IsAnswer inputs task before now numbers opened new reply takes → IsFromScratch inputs reply
 from_scratch_opened None runs lost inputs task before now numbers new reply takes stands asks clean h = absurd stands
 from_scratch_opened (Some files) runs lost inputs task before now numbers new reply takes stands asks clean h =
     from_scratch files runs lost inputs task before now numbers new reply takes (record { stands = stands; asks = asks; clean = clean }) h
 
-pub from_scratch_in : (words : List (List ℕ)) (environment : List (List ℕ × List ℕ)) (moment : ℕ) (workspace : Option Files) (read : Option Record) (before now : ℕ) (old new : Option Files) (reply : Reply) (takes : List (List ℕ × Found)) (runs : List Run) (lost : List (List ℕ))
+pub from_scratch_in : (words : List (List ℕ)) (environment : List (List ℕ × List ℕ)) (moment : ℕ) (workspace : Option Files) (read : Option Record) (before now : ℕ) (old new : Option Files) (reply : Reply) (takes : List (List ℕ × FoundEntry)) (runs : List Run) (lost : List (List ℕ))
     → IfSome read (IsRecordOf words environment moment workspace) → IfSome read (λ inputs. IsAnswerTo words inputs before now old new reply takes)
     → StandsIn old runs lost → IfSome read (λ inputs. Clean (all_texts inputs runs) → IsFromScratch inputs reply)
 from_scratch_in words environment moment workspace None before now old new reply takes runs lost of answer stands = tt
@@ -234,7 +234,7 @@ without_record (Some task) before now w v old new reply rows lost refused (inl u
 without_record (Some task) before now w v old new reply rows lost refused (inr (numbers, opened, opening, failed)) stands =
     subst (λ c. store.StandsIn c rows lost) (sym failed.out) (opened_stands old opened numbers rows lost opening stands)
 
-pub stands_in : (words : List (List ℕ)) (read : Option Record) (before now w v : ℕ) (old new : Option Files) (reply : Reply) (takes : List (List ℕ × Found)) (runs : List Run) (lost : List (List ℕ))
+pub stands_in : (words : List (List ℕ)) (read : Option Record) (before now w v : ℕ) (old new : Option Files) (reply : Reply) (takes : List (List ℕ × FoundEntry)) (runs : List Run) (lost : List (List ℕ))
     → (IsNone read → IsUnread words before now w v old new reply takes)
     → (StandsIn old runs lost → IfSome read (λ inputs. Clean (all_texts inputs runs) → StandsIn new (runs ++ runs_of inputs takes) lost))
     → StandsIn old runs lost → IfSome read (λ inputs. Clean (all_texts inputs runs)) → StandsIn new (runs ++ runs_in read takes) lost

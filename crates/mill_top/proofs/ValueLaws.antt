@@ -11,8 +11,8 @@ use Rattle.out_store.specs.declared.numbers.Numbers.{Numbers}
 use Rattle.mill_top.specs.declared.outcome.Outcome.{Outcome}
 use Rattle.mill_top.specs.declared.outcome.Outcome.TheVariants.{Returns}
 use Rattle.mill_top.specs.declared.recorded.Record.{Record}
-use Rattle.mill_top.specs.declared.takes.Found.{Found}
-use Rattle.mill_top.specs.declared.takes.Found.TheVariants.{Missing, Other, Same}
+use Rattle.mill_top.specs.declared.takes.FoundEntry.{FoundEntry}
+use Rattle.mill_top.specs.declared.takes.FoundEntry.TheVariants.{Missing, Other, Same}
 use Rattle.mill_top.specs.declared.task_file.Body.{Body}
 use Rattle.mill_top.specs.declared.task_file.Body.TheVariants.{Constant, Linked}
 use Rattle.mill_top.specs.declared.task_file.TaskFile.{TaskFile}
@@ -106,7 +106,7 @@ scratch_over inputs task values outcome accepted over e =
     task-scratch inputs task own.0 accepted own.1 ∙ body_over inputs own.0.body values names ∙ body
 
 -- the outcome of a take, from scratch
-take_scratch : (files : Files) (runs all : List Run) (lost : List (List ℕ)) (inputs : Record) (task : List ℕ) (outcome : Outcome) (found : Found) (value : ℤ)
+take_scratch : (files : Files) (runs all : List Run) (lost : List (List ℕ)) (inputs : Record) (task : List ℕ) (outcome : Outcome) (found : FoundEntry) (value : ℤ)
     → Stands files (rows_of runs) lost → Clean (flat_map texts all) → Contains all (record { inputs = inputs; task = task }) → ((run : Run) → Contains runs run → Contains all run)
     → IsDigested inputs task (scratch_values inputs task) → scratch inputs task ≡ Some outcome
     → Why files task (input_hash inputs task (scratch_values inputs task)) found

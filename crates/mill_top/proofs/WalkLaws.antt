@@ -23,8 +23,8 @@ use Rattle.out_store.proofs.StandingLaws.{reads_along}
 use Rattle.mill_top.specs.declared.outcome.Outcome.{Outcome}
 use Rattle.mill_top.specs.declared.outcome.Outcome.TheVariants.{Returns}
 use Rattle.mill_top.specs.declared.recorded.Record.{Record}
-use Rattle.mill_top.specs.declared.takes.Found.{Found}
-use Rattle.mill_top.specs.declared.takes.Found.TheVariants.{Missing, Other, Same}
+use Rattle.mill_top.specs.declared.takes.FoundEntry.{FoundEntry}
+use Rattle.mill_top.specs.declared.takes.FoundEntry.TheVariants.{Missing, Other, Same}
 use Rattle.mill_top.specs.declared.task_file.TaskFile.{TaskFile}
 use Rattle.mill_top.specs.Chains.{latest, IsLink, IsChain}
 use Rattle.mill_top.specs.Graphs.{task_in, task_name, inputs_of}
@@ -53,7 +53,7 @@ run_other take content task named own differ =
     put_other (put_in (log_name take.task) (log_text []) content) (entry_name take.task) _ (entry_name task) (λ same. differ (same_entry task take.task named own same))
     ∙ put_other content (log_name take.task) _ (entry_name task) (entry_not_log task take.task named own)
 
-after_other : (found : Found) (take : Take) (content : Option Files) (task : List ℕ) → IsTaskName task → IsTaskName take.task → task ≢ take.task
+after_other : (found : FoundEntry) (take : Take) (content : Option Files) (task : List ℕ) → IsTaskName task → IsTaskName take.task → task ≢ take.task
     → at_name (entry_name task) (after found take content) ≡ at_name (entry_name task) content
 after_other Missing take content task named own differ = run_other take content task named own differ
 after_other (Other d) take content task named own differ = run_other take content task named own differ
@@ -71,7 +71,7 @@ module _ (task : List ℕ) (old new : Files) (here : get new (entry_name task) �
   reads_back : (entry : Entry) (value : ℤ) → ReadsInt new task entry value → ReadsInt old task entry value
   reads_back entry value own = record { reads = reads_along old new task entry here own.reads; holds = own.holds }
 
-  why_back : (input : List ℕ) (found : Found) → Why new task input found → Why old task input found
+  why_back : (input : List ℕ) (found : FoundEntry) → Why new task input found → Why old task input found
   why_back input Missing why = λ entry reads. why entry (reads_along new old task entry (sym here) reads)
   why_back input (Other d) (differs, (entry, reads, is)) = (differs, (entry, reads_along old new task entry here reads, is))
   why_back input (Same d) (same, (entry, value, own, is)) = (same, (entry, value, reads_back entry value own, is))
@@ -82,7 +82,7 @@ some_back P Q None new name here move h = tt
 some_back P Q (Some f) None name here move h = cc
 some_back P Q (Some f) (Some g) name here move h = move f g (same_Some _ _ here) h
 
-given_back : (task : List ℕ) (found : Found) (outcome : Outcome) (value : ℤ) (old new : Option Files) → at_name (entry_name task) new ≡ at_name (entry_name task) old
+given_back : (task : List ℕ) (found : FoundEntry) (outcome : Outcome) (value : ℤ) (old new : Option Files) → at_name (entry_name task) new ≡ at_name (entry_name task) old
     → IsGivenBy new task found outcome value → IsGivenBy old task found outcome value
 given_back task Missing outcome value old new here gives = gives
 given_back task (Other d) outcome value old new here gives = gives
@@ -90,7 +90,7 @@ given_back task (Same d) outcome value old new here gives =
     some_back (λ files. (entry : Entry) × ReadsInt files task entry value × (entry.input ≡ d)) (λ files. (entry : Entry) × ReadsInt files task entry value × (entry.input ≡ d)) old new (entry_name task) here
     (λ f g same (entry, own, is). (entry, reads_back task f g same entry value own, is)) gives
 
-under_back : (task : List ℕ) (found : Found) (numbers numbers_now : Numbers) (number : ℕ) (old new : Option Files) → at_name (entry_name task) new ≡ at_name (entry_name task) old
+under_back : (task : List ℕ) (found : FoundEntry) (numbers numbers_now : Numbers) (number : ℕ) (old new : Option Files) → at_name (entry_name task) new ≡ at_name (entry_name task) old
     → ((n : ℕ) → IsUsed numbers_now task n ↔ IsUsed numbers task n) → IsPutUnder numbers_now new task found number → IsPutUnder numbers old task found number
 under_back task Missing numbers numbers_now number old new here same under =
     some_back (λ files. IsNext numbers_now task number) (λ files. IsNext numbers task number) old new (entry_name task) here (λ f g e next. next_along numbers numbers_now task number same next) under
@@ -110,7 +110,7 @@ take_back task input outcome numbers numbers_now old new take here same is = rec
 
 -- ---- a take that ended leaves what it may leave
 
-pub whole_take : (found : Found) (take : Take) (content : Option Files) → MayLeaveAfter found take content (after found take content)
+pub whole_take : (found : FoundEntry) (take : Take) (content : Option Files) → MayLeaveAfter found take content (after found take content)
 whole_take Missing take content = all_put (puts_of (finished_of take) take.generation) content _ refl
 whole_take (Other d) take content = all_put (puts_of (finished_of take) take.generation) content _ refl
 whole_take (Same d) take content = refl
@@ -161,7 +161,7 @@ one_given inputs file value numbers numbers_now old mid done take link is out na
       is_take = subst (λ task. IsTakeOf task (input_hash inputs task values) outcome numbers old take) back moved;
     }
 
-one_taken : (inputs : Record) (plan : List TaskFile) (numbers : Numbers) (old : Option Files) (takes takes_now : List (List ℕ × Found)) (done : List Take) (file : TaskFile) (rest : List TaskFile) (take : Take)
+one_taken : (inputs : Record) (plan : List TaskFile) (numbers : Numbers) (old : Option Files) (takes takes_now : List (List ℕ × FoundEntry)) (done : List Take) (file : TaskFile) (rest : List TaskFile) (take : Take)
     → AreTaken inputs plan numbers old takes done (file ∷ rest) → takes_now ≡ takes ++ seen take ∷ [] → take.task ≡ task_name file → IsGiven inputs numbers old done take
     → AreTaken inputs plan numbers old takes_now (take ∷ done) rest
 one_taken inputs plan numbers old takes takes_now done file rest take taken more is one = record {
@@ -188,7 +188,7 @@ rest_more taken task name numbers mid now is rest others = λ t n fresh.
     let one = others t n (λ same. fresh.0 (sym is ∙ sym same)) in
     ((λ used. before.0 (one.0 used)), (λ used. one.1 (before.1 used)))
 
-pub walk_start : (inputs : Record) (plan : List TaskFile) (numbers : Numbers) (old : Option Files) (takes : List (List ℕ × Found)) → takes ≡ [] → IsChain inputs.files [] plan
+pub walk_start : (inputs : Record) (plan : List TaskFile) (numbers : Numbers) (old : Option Files) (takes : List (List ℕ × FoundEntry)) → takes ≡ [] → IsChain inputs.files [] plan
     → IsWalked inputs plan numbers numbers old old takes plan None
 walk_start inputs plan numbers old takes none chain = record {
   done = [];
@@ -201,7 +201,7 @@ walk_start inputs plan numbers old takes none chain = record {
   rows = unchanged numbers old;
 }
 
-pub walk_more : (inputs : Record) (plan : List TaskFile) (numbers numbers_mid numbers_now : Numbers) (old mid new : Option Files) (takes takes_now : List (List ℕ × Found)) (file : TaskFile) (rest : List TaskFile) (before : Option ℤ) (value : ℤ)
+pub walk_more : (inputs : Record) (plan : List TaskFile) (numbers numbers_mid numbers_now : Numbers) (old mid new : Option Files) (takes takes_now : List (List ℕ × FoundEntry)) (file : TaskFile) (rest : List TaskFile) (before : Option ℤ) (value : ℤ)
     → IsWalked inputs plan numbers numbers_mid old mid takes (file ∷ rest) before → IsFileStep inputs file before numbers_mid numbers_now mid new (Ok value) takes takes_now
     → IsWalked inputs plan numbers numbers_now old new takes_now rest (Some value)
 walk_more inputs plan numbers numbers_mid numbers_now old mid new takes takes_now file rest before value walked (inl untaken) = absurd (false≢true untaken.stopped)
@@ -220,7 +220,7 @@ walk_more inputs plan numbers numbers_mid numbers_now old mid new takes takes_no
       rows = both_leave numbers numbers_mid numbers_now old mid new (rows_put walked.done) (row_put take.found take) walked.rows taken.rows;
     }
 
-pub walk_stopped : (inputs : Record) (plan : List TaskFile) (numbers numbers_mid numbers_now : Numbers) (old mid new : Option Files) (takes takes_now : List (List ℕ × Found)) (file : TaskFile) (rest : List TaskFile) (before : Option ℤ) (refused : OutFault)
+pub walk_stopped : (inputs : Record) (plan : List TaskFile) (numbers numbers_mid numbers_now : Numbers) (old mid new : Option Files) (takes takes_now : List (List ℕ × FoundEntry)) (file : TaskFile) (rest : List TaskFile) (before : Option ℤ) (refused : OutFault)
     → IsWalked inputs plan numbers numbers_mid old mid takes (file ∷ rest) before → IsFileStep inputs file before numbers_mid numbers_now mid new (Err refused) takes takes_now
     → IsStopped inputs plan numbers numbers_now old new takes_now
 walk_stopped inputs plan numbers numbers_mid numbers_now old mid new takes takes_now file rest before refused walked (inl untaken) = record {
@@ -243,24 +243,24 @@ walk_stopped inputs plan numbers numbers_mid numbers_now old mid new takes takes
 
 -- ---- the same at a place of the plan
 
-walk_at : (inputs : Record) (plan : List TaskFile) (numbers numbers_mid : Numbers) (old mid : Option Files) (takes : List (List ℕ × Found)) (i : ℕ) (d : TaskFile) (before : Option ℤ) → i < length plan
+walk_at : (inputs : Record) (plan : List TaskFile) (numbers numbers_mid : Numbers) (old mid : Option Files) (takes : List (List ℕ × FoundEntry)) (i : ℕ) (d : TaskFile) (before : Option ℤ) → i < length plan
     → IsWalked inputs plan numbers numbers_mid old mid takes (drop i plan) before → IsWalked inputs plan numbers numbers_mid old mid takes (get_or plan i d ∷ drop (i + 1) plan) before
 walk_at inputs plan numbers numbers_mid old mid takes i d before within walked = subst (λ rest. IsWalked inputs plan numbers numbers_mid old mid takes rest before) (drop_more plan i d within) walked
 
-pub more_at : (inputs : Record) (plan : List TaskFile) (numbers numbers_mid numbers_now : Numbers) (old mid new : Option Files) (takes takes_now : List (List ℕ × Found)) (i : ℕ) (d : TaskFile) (before : Option ℤ) (value : ℤ) → i < length plan
+pub more_at : (inputs : Record) (plan : List TaskFile) (numbers numbers_mid numbers_now : Numbers) (old mid new : Option Files) (takes takes_now : List (List ℕ × FoundEntry)) (i : ℕ) (d : TaskFile) (before : Option ℤ) (value : ℤ) → i < length plan
     → IsWalked inputs plan numbers numbers_mid old mid takes (drop i plan) before → IsFileStep inputs (get_or plan i d) before numbers_mid numbers_now mid new (Ok value) takes takes_now
     → IsWalked inputs plan numbers numbers_now old new takes_now (drop (i + 1) plan) (Some value)
 more_at inputs plan numbers numbers_mid numbers_now old mid new takes takes_now i d before value within walked step =
     walk_more inputs plan numbers numbers_mid numbers_now old mid new takes takes_now (get_or plan i d) (drop (i + 1) plan) before value (walk_at inputs plan numbers numbers_mid old mid takes i d before within walked) step
 
-pub stopped_at : (inputs : Record) (plan : List TaskFile) (numbers numbers_mid numbers_now : Numbers) (old mid new : Option Files) (takes takes_now : List (List ℕ × Found)) (i : ℕ) (d : TaskFile) (before : Option ℤ) (refused : OutFault) → i < length plan
+pub stopped_at : (inputs : Record) (plan : List TaskFile) (numbers numbers_mid numbers_now : Numbers) (old mid new : Option Files) (takes takes_now : List (List ℕ × FoundEntry)) (i : ℕ) (d : TaskFile) (before : Option ℤ) (refused : OutFault) → i < length plan
     → IsWalked inputs plan numbers numbers_mid old mid takes (drop i plan) before → IsFileStep inputs (get_or plan i d) before numbers_mid numbers_now mid new (Err refused) takes takes_now
     → IsStopped inputs plan numbers numbers_now old new takes_now
 stopped_at inputs plan numbers numbers_mid numbers_now old mid new takes takes_now i d before refused within walked step =
     walk_stopped inputs plan numbers numbers_mid numbers_now old mid new takes takes_now (get_or plan i d) (drop (i + 1) plan) before refused (walk_at inputs plan numbers numbers_mid old mid takes i d before within walked) step
 
 -- the next task of the plan has a free number
-pub next_at : (inputs : Record) (plan : List TaskFile) (numbers numbers_mid : Numbers) (old mid : Option Files) (takes : List (List ℕ × Found)) (i : ℕ) (d : TaskFile) (before : Option ℤ) → i < length plan
+pub next_at : (inputs : Record) (plan : List TaskFile) (numbers numbers_mid : Numbers) (old mid : Option Files) (takes : List (List ℕ × FoundEntry)) (i : ℕ) (d : TaskFile) (before : Option ℤ) → i < length plan
     → IsReady numbers old → IsWalked inputs plan numbers numbers_mid old mid takes (drop i plan) before → HasNext numbers_mid mid (task_name (get_or plan i d))
 next_at inputs plan numbers numbers_mid old mid takes i d before within ready walked =
     let here = walk_at inputs plan numbers numbers_mid old mid takes i d before within walked in

@@ -8,15 +8,16 @@ use Rattle.mill_top.specs.declared.build_fault.BuildFault.{BuildFault}
 use Rattle.mill_top.specs.declared.recorded.Record.{Record}
 use Rattle.mill_top.specs.declared.reply.Reply.{Reply}
 use Rattle.mill_top.specs.declared.reply.Reply.TheVariants.{Value, WordsNotBuilt, StoreFault, WorkspaceFault, Memory}
-use Rattle.mill_top.specs.declared.takes.Found.{Found}
+use Rattle.mill_top.specs.declared.takes.FoundEntry.{FoundEntry}
 use Rattle.mill_top.specs.declared.task_file.TaskFile.{TaskFile}
 use Rattle.mill_top.specs.Words.{asked}
 use Rattle.mill_top.specs.Graphs.{plan, task_name}
-use Rattle.mill_top.specs.Inputs.{Run, texts}
+use Rattle.mill_top.specs.Inputs.{Run, Clean, texts}
 use Rattle.mill_top.specs.Takes.{Take, task_of, seen, given, AreGiven, runs_of}
 use Rattle.mill_top.specs.Leaving.{after_takes, MayLeave}
 use Rattle.mill_top.specs.Loading.{IsLoaded, IsUnloaded}
 use Rattle.mill_top.specs.Replies.{build_reply, refusal, IsReplyOf}
+use Rattle.mill_top.specs.Standing.{StandsIn}
 
 -- the reply is this one, or memory was wanted
 abbrev pub IsUnlessMemory : Reply → Reply → Type 0
@@ -55,7 +56,7 @@ IsOpenedAlone workspace_before workspace_now old new reply =
     (numbers : Numbers) × (opened : Option Files) × IsOpened old opened numbers × IsUnfound workspace_before workspace_now opened new reply
 
 -- The reply to a command without a record: its words are refused, or the opening of the store, or the workspace failed.
-pub record IsUnread (words : List (List ℕ)) (before now workspace_before workspace_now : ℕ) (old new : Option Files) (reply : Reply) (takes : List (List ℕ × Found)) : Type 0 where
+pub record IsUnread (words : List (List ℕ)) (before now workspace_before workspace_now : ℕ) (old new : Option Files) (reply : Reply) (takes : List (List ℕ × FoundEntry)) : Type 0 where
   pub nothing_taken : takes ≡ []
   pub refused : IfNone (asked words) (AreRefused before now workspace_before workspace_now old new reply)
   pub failed : IfSome (asked words) (λ task. IsUnopened before now workspace_before workspace_now old new reply ⊎ IsOpenedAlone workspace_before workspace_now old new reply)
@@ -66,14 +67,14 @@ IsEvaluation (Value value) = Unit {0}
 IsEvaluation reply = IsUnlessMemory reply StoreFault
 
 -- a record that is refused is answered so, and nothing is taken
-pub record IsRefused (refused : Reply) (old new : Option Files) (reply : Reply) (takes : List (List ℕ × Found)) : Type 0 where
+pub record IsRefused (refused : Reply) (old new : Option Files) (reply : Reply) (takes : List (List ℕ × FoundEntry)) : Type 0 where
   pub reply_is : IsUnlessMemory reply refused
   pub nothing_taken : takes ≡ []
   pub out : new ≡ old
 
 -- The first tasks of a plan, in order, were taken, each with the reason that the content before all of them gives
 -- and with its value over those that the earlier ones gave. The takes stand here the latest first.
-pub record AreTaken (inputs : Record) (planned : List TaskFile) (numbers : Numbers) (old : Option Files) (takes : List (List ℕ × Found)) (done : List Take) (rest : List TaskFile) : Type 0 where
+pub record AreTaken (inputs : Record) (planned : List TaskFile) (numbers : Numbers) (old : Option Files) (takes : List (List ℕ × FoundEntry)) (done : List Take) (rest : List TaskFile) : Type 0 where
   pub all_seen : takes ≡ reverse (map seen done)
   pub in_order : reverse (map task_of done) ++ map task_name rest ≡ map task_name planned
   pub are_given : AreGiven inputs numbers old done
@@ -86,7 +87,7 @@ pub record IsValue (task : List ℕ) (old new : Option Files) (done : List Take)
 
 -- The reply to a command with a record that is not refused, over an opened store with these numbers, which has these
 -- faults before and now and this content, where it tells.
-pub record IsEvaluated (inputs : Record) (task : List ℕ) (before now : ℕ) (numbers : Numbers) (old new : Option Files) (reply : Reply) (takes : List (List ℕ × Found)) : Type 0 where
+pub record IsEvaluated (inputs : Record) (task : List ℕ) (before now : ℕ) (numbers : Numbers) (old new : Option Files) (reply : Reply) (takes : List (List ℕ × FoundEntry)) : Type 0 where
   pub evaluated : IsEvaluation reply
   pub cause : reply ≡ StoreFault → Rose before now
   pub done : List Take
@@ -96,19 +97,19 @@ pub record IsEvaluated (inputs : Record) (task : List ℕ) (before now : ℕ) (n
   pub left : MayLeave done old new
 
 -- the reply over class files that are loaded
-abbrev pub IsAnswerOfLoaded : Record → List ℕ → (before now : ℕ) → Numbers → (old new : Option Files) → Reply → List (List ℕ × Found) → Type 0
+abbrev pub IsAnswerOfLoaded : Record → List ℕ → (before now : ℕ) → Numbers → (old new : Option Files) → Reply → List (List ℕ × FoundEntry) → Type 0
 IsAnswerOfLoaded inputs task before now numbers old new reply takes =
     MatchOption (refusal inputs task) (IsEvaluated inputs task before now numbers old new reply takes) (λ refused. IsRefused refused old new reply takes)
 
 -- The reply to a command with a record, over an opened store: its class files aren't loaded, for this first cause, or they are.
-abbrev pub IsAnswer : Record → List ℕ → (before now : ℕ) → Numbers → (old new : Option Files) → Reply → List (List ℕ × Found) → Type 0
+abbrev pub IsAnswer : Record → List ℕ → (before now : ℕ) → Numbers → (old new : Option Files) → Reply → List (List ℕ × FoundEntry) → Type 0
 IsAnswer inputs task before now numbers old new reply takes =
     ((fault : BuildFault) × IsUnloaded inputs.files fault × IsRefused (build_reply fault) old new reply takes)
     ⊎ (IsLoaded inputs.files × IsAnswerOfLoaded inputs task before now numbers old new reply takes)
 
 -- The answer to words that ask for a task: the store was opened, and the answer is over what it then held and over the
 -- numbers of the generations that its entries published.
-pub record IsAnswerTo (words : List (List ℕ)) (inputs : Record) (before now : ℕ) (old new : Option Files) (reply : Reply) (takes : List (List ℕ × Found)) : Type 0 where
+pub record IsAnswerTo (words : List (List ℕ)) (inputs : Record) (before now : ℕ) (old new : Option Files) (reply : Reply) (takes : List (List ℕ × FoundEntry)) : Type 0 where
   pub task : List ℕ
   pub asks : asked words ≡ Some task
   pub numbers : Numbers
@@ -117,7 +118,7 @@ pub record IsAnswerTo (words : List (List ℕ)) (inputs : Record) (before now : 
   pub answer : IsAnswer inputs task before now numbers opened new reply takes
 
 -- the runs of a command, if it has a record
-abbrev pub runs_in : Option Record → List (List ℕ × Found) → List Run
+abbrev pub runs_in : Option Record → List (List ℕ × FoundEntry) → List Run
 runs_in None takes = []
 runs_in (Some inputs) takes = runs_of inputs takes
 
@@ -129,6 +130,19 @@ planned_runs inputs (Some task) = map (λ file. record { inputs = inputs; task =
 -- the texts that are digested for these runs, and for those that a command over a record plans
 abbrev pub all_texts : Record → List Run → List (List ℕ)
 all_texts inputs runs = flat_map texts (planned_runs inputs (asked inputs.words) ++ runs)
+
+-- What a command over a record made of the store: where it stood for runs, and no two of the texts that are digested for
+-- these and for the planned ones collide, it stands for them and for the runs of what was taken.
+abbrev pub StandsForMore : Record → List (List ℕ × FoundEntry) → (old new : Option Files) → Type 0
+StandsForMore inputs takes old new =
+    (runs : List Run) (lost : List (List ℕ)) → StandsIn old runs lost → Clean (all_texts inputs runs)
+    → StandsIn new (runs ++ runs_of inputs takes) lost
+
+-- the same where a record was read
+abbrev pub StandsForMoreIfRead : Option Record → List (List ℕ × FoundEntry) → (old new : Option Files) → Type 0
+StandsForMoreIfRead read takes old new =
+    (runs : List Run) (lost : List (List ℕ)) → StandsIn old runs lost
+    → IfSome read (λ inputs. Clean (all_texts inputs runs) → StandsIn new (runs ++ runs_of inputs takes) lost)
 
 -- the reply from scratch, or the store failed, or memory was wanted
 abbrev pub IsFromScratch : Record → Reply → Type 0

@@ -32,9 +32,13 @@ abbrev pub is_in_place : List ℕ → Option TaskFile → Bool
 is_in_place path (Some file) = bytes_eq path (class_path file.class)
 is_in_place path None = false
 
--- the first class file that is neither small nor linked, or is not in its place
+-- whether it is a class file that is neither small nor linked, or is not in its place
+abbrev pub is_out_of_place : File → Bool
+is_out_of_place file = is_class_path file.0 && not (is_in_place file.0 (task_file_of file.1))
+
+-- the first such file
 abbrev pub first_out_of_place : Files → Option File
-first_out_of_place files = find (λ file. is_class_path file.0 && not (is_in_place file.0 (task_file_of file.1))) files
+first_out_of_place files = find is_out_of_place files
 
 -- the path for which the files are no build yet, which is the least such one, since the files stand in byte order
 abbrev pub not_built : Files → Option (List ℕ)

@@ -5,7 +5,7 @@ use Rattle.io_traits.specs.Files.{Files}
 use Rattle.io_traits.specs.Planned.{FailingCalls}
 use Rattle.mill_top.specs.declared.recorded.Record.{Record}
 use Rattle.mill_top.specs.declared.reply.Reply.{Reply}
-use Rattle.mill_top.specs.declared.takes.Found.{Found}
+use Rattle.mill_top.specs.declared.takes.FoundEntry.{FoundEntry}
 use Rattle.mill_top.specs.Answers.{IsRecordOf, IsUnread, IsAnswerTo, IsFromScratch, runs_in, all_texts}
 use Rattle.mill_top.specs.Inputs.{Run, Clean}
 use Rattle.mill_top.specs.Replies.{printed, Shown}
@@ -35,11 +35,11 @@ devices store workspace sink = record { store = store; workspace = workspace; si
 -- what a command ended with: the record that it read, if it did, the tasks that it took, the reply and the status
 pub record Command : Type 0 where
   pub inputs : Option Record
-  pub takes : List (List ℕ × Found)
+  pub takes : List (List ℕ × FoundEntry)
   pub reply : Reply
   pub status : ℕ
 
-abbrev pub command : Option Record → List (List ℕ × Found) → Reply → ℕ → Command
+abbrev pub command : Option Record → List (List ℕ × FoundEntry) → Reply → ℕ → Command
 command inputs takes reply status = record { inputs = inputs; takes = takes; reply = reply; status = status }
 
 -- The device that was handed in: its count didn't fall, the pair that it keeps is as it was, or its content and count at

@@ -1,11 +1,11 @@
 -- The task graph of a build: its tasks, why a build is refused, and the plan of a task.
-use Rattle.std.specs.Prelude.{Bool, false, ℕ, zero, suc, List, [], ◌∷◌, ◌++◌, length, flat_map, count_by, nat_le, ◌==◌, ◌||◌, Option, None, codes, is_none, is_some, option_and_then}
+use Rattle.std.specs.Prelude.{◌≡◌, ◌⊎◌, Bool, false, ℕ, zero, suc, List, [], ◌∷◌, ◌++◌, length, flat_map, count_by, nat_le, ◌==◌, ◌||◌, Option, Some, None, codes, is_none, is_some, option_and_then}
 use Rattle.std.specs.Option.{option_map, option_map_or, option_or}
 use Rattle.std.specs.List.{filter_map, find, list_any}
 use Rattle.io_traits.specs.Files.{Files}
 use Rattle.class_read.specs.ClassFiles.{class_files}
 use Rattle.mill_top.specs.declared.build_fault.BuildFault.{BuildFault}
-use Rattle.mill_top.specs.declared.build_fault.BuildFault.TheVariants.{NotBuilt, DuplicateTask, UnknownInput, Cycle}
+use Rattle.mill_top.specs.declared.build_fault.BuildFault.TheVariants.{NotBuilt, DuplicateTask, UnknownInput, Cycle, Memory}
 use Rattle.mill_top.specs.declared.task_file.Body.{Body}
 use Rattle.mill_top.specs.declared.task_file.Body.TheVariants.{Constant, Linked}
 use Rattle.mill_top.specs.declared.task_file.TaskFile.{TaskFile}
@@ -82,6 +82,10 @@ refusal_of_tasks files = option_or (option_map DuplicateTask (duplicate_task fil
 
 unfoldable pub refusal_of_build : Files → Option BuildFault
 refusal_of_build files = option_or (option_map NotBuilt (not_built files)) (refusal_of_tasks (task_files files))
+
+-- the build is refused so, or memory was wanted
+abbrev pub IsRefusalUnlessMemory : Option BuildFault → BuildFault → Type 0
+IsRefusalUnlessMemory refusal fault = (refusal ≡ Some fault) ⊎ (fault ≡ Memory)
 
 -- The tasks upstream of a task, each behind its inputs, and then the task itself, with ways of at most n tasks. Here
 -- each task has one input at most, so that none comes twice.

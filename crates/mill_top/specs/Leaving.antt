@@ -7,8 +7,8 @@ use Rattle.out_store.specs.Publishing.{puts_of}
 use Rattle.out_store.specs.declared.finished.Finished.{Finished}
 use Rattle.mill_top.specs.declared.outcome.Outcome.{Outcome}
 use Rattle.mill_top.specs.declared.outcome.Outcome.TheVariants.{Returns}
-use Rattle.mill_top.specs.declared.takes.Found.{Found}
-use Rattle.mill_top.specs.declared.takes.Found.TheVariants.{Same}
+use Rattle.mill_top.specs.declared.takes.FoundEntry.{FoundEntry}
+use Rattle.mill_top.specs.declared.takes.FoundEntry.TheVariants.{Same}
 use Rattle.mill_top.specs.Takes.{Take}
 
 -- the run of a task with this outcome, without dest files, since no body makes any yet
@@ -20,7 +20,7 @@ abbrev pub finished_of : Take → Finished
 finished_of take = finished_by take.task take.input (Returns take.value [])
 
 -- the content after a take: as it was where the entry was reused, or with all that the run puts
-abbrev pub after : Found → Take → Option Files → Option Files
+abbrev pub after : FoundEntry → Take → Option Files → Option Files
 after (Same input) take content = content
 after found take content = puts_in (puts_of (finished_of take) take.generation) content
 
@@ -32,7 +32,7 @@ abbrev pub after_takes : List Take → Option Files → Option Files
 after_takes [] content = content
 after_takes (take ∷ earlier) content = after_take take (after_takes earlier content)
 
-abbrev pub MayLeaveAfter : Found → Take → Option Files → Option Files → Type 0
+abbrev pub MayLeaveAfter : FoundEntry → Take → Option Files → Option Files → Type 0
 MayLeaveAfter (Same input) take old new = new ≡ old
 MayLeaveAfter found take old new = LeftByPuts (puts_of (finished_of take) take.generation) old new
 

@@ -10,7 +10,7 @@ use Rattle.mill_top.specs.declared.replay_steps.Answered.{Answered}
 use Rattle.mill_top.specs.declared.replay_steps.ReplayStep.{ReplayStep}
 use Rattle.mill_top.specs.declared.replay_steps.ReplayStep.TheVariants.{Edit, Lose, Run}
 use Rattle.mill_top.specs.declared.replay_steps.Replayed.{Replayed}
-use Rattle.mill_top.specs.declared.takes.Found.{Found}
+use Rattle.mill_top.specs.declared.takes.FoundEntry.{FoundEntry}
 use Rattle.mill_top.specs.Answers.{IsFromScratch, runs_in, all_texts}
 use Rattle.mill_top.specs.Commands.{Device, Devices, device, devices, Command, IsCommand}
 use Rattle.mill_top.specs.Inputs.{Clean}
@@ -40,7 +40,7 @@ pub record Ran : Type 0 where
   pub command : Command
   pub sink : MemSink
 
-abbrev pub takes_of : Ran → List (List ℕ × Found)
+abbrev pub takes_of : Ran → List (List ℕ × FoundEntry)
 takes_of ran = ran.command.takes
 
 abbrev pub answered : Ran → Answered

@@ -2,6 +2,7 @@
 use Rattle.std.specs.Prelude.{◌≡◌, ℕ, ℤ, Bool, true, if◌then◌else◌, List, [], ◌∷◌, ◌++◌, flat_map, fold, take, codes, Option, Some, None, ◌⊎◌}
 use Rattle.std.specs.BTreeMap.{insert_entry}
 use Rattle.std.specs.Fmt.{signed_decimal}
+use Rattle.io_traits.specs.Causes.{Rose}
 use Rattle.io_traits.specs.Streams.{Got}
 use Rattle.tree_value.specs.Trees.{path_cmp}
 use Rattle.mill_top.specs.declared.build_fault.BuildFault.{BuildFault}
@@ -10,8 +11,8 @@ use Rattle.mill_top.specs.declared.outcome.Outcome.TheVariants.{Returns}
 use Rattle.mill_top.specs.declared.recorded.Record.{Record}
 use Rattle.mill_top.specs.declared.reply.Reply.{Reply}
 use Rattle.mill_top.specs.declared.reply.Reply.TheVariants.{Value, WordsNotBuilt, Build, NoTask, StoreFault, WorkspaceFault, Memory}
-use Rattle.mill_top.specs.declared.takes.Found.{Found}
-use Rattle.mill_top.specs.declared.takes.Found.TheVariants.{Missing, Other, Same}
+use Rattle.mill_top.specs.declared.takes.FoundEntry.{FoundEntry}
+use Rattle.mill_top.specs.declared.takes.FoundEntry.TheVariants.{Missing, Other, Same}
 use Rattle.mill_top.specs.BuildFaults.{wants_memory, build_line}
 use Rattle.mill_top.specs.Loading.{IsLoaded, IsUnloaded}
 use Rattle.mill_top.specs.Words.{asked}
@@ -37,25 +38,25 @@ line WorkspaceFault = codes "workspace fault"
 line Memory = codes "memory"
 
 -- what `--explain` says of a task: a line with the reason, where it ran
-abbrev pub explained : List ℕ → Found → List ℕ
+abbrev pub explained : List ℕ → FoundEntry → List ℕ
 explained task Missing = task ++ codes " ran: missing\n"
 explained task (Other input) = task ++ codes " ran: changed\n"
 explained task (Same input) = []
 
 -- tasks in byte order of their names, each with what was found last
-abbrev pub in_name_order : List (List ℕ × Found) → List (List ℕ × Found)
+abbrev pub in_name_order : List (List ℕ × FoundEntry) → List (List ℕ × FoundEntry)
 in_name_order takes = fold (λ ordered take. insert_entry path_cmp ordered take.0 take.1) [] takes
 
-unfoldable pub explanation : List (List ℕ × Found) → List ℕ
+unfoldable pub explanation : List (List ℕ × FoundEntry) → List ℕ
 explanation takes = flat_map (λ take. explained take.0 take.1) (in_name_order takes)
 
 -- where a value is the reply, and `--explain` is asked for, the explanation stands before it
-abbrev pub before_line : Bool → List (List ℕ × Found) → Reply → List ℕ
+abbrev pub before_line : Bool → List (List ℕ × FoundEntry) → Reply → List ℕ
 before_line true takes (Value value) = explanation takes
 before_line _ takes reply = []
 
 -- all that is printed for a reply, after these takes: the reply's line, with a line feed behind it, after the explanation
-unfoldable pub printed : Bool → List (List ℕ × Found) → Reply → List ℕ
+unfoldable pub printed : Bool → List (List ℕ × FoundEntry) → Reply → List ℕ
 printed explains takes reply = before_line explains takes reply ++ line reply ++ 10 ∷ []
 
 -- the reply where a build is refused
@@ -90,9 +91,18 @@ IsWordsReply inputs (Some task) reply = IsTaskReply inputs task reply
 abbrev pub IsReplyOf : Record → Reply → Type 0
 IsReplyOf inputs reply = IsWordsReply inputs (asked inputs.words) reply
 
+-- the sink has a front part of the text behind what it had
+abbrev pub GotFront : (before after : Option (List ℕ)) → List ℕ → Type 0
+GotFront before after text = (n : ℕ) × Got before after (take n text)
+
+-- a status was given and the text was sent; or 7 was given, the sink failed, and a front part of the text was sent
+abbrev pub IsSent : (given own : ℕ) → (before after : Option (List ℕ)) → (faults faults_now : ℕ) → List ℕ → Type 0
+IsSent given own before after faults faults_now text =
+    ((given ≡ own) × Got before after text) ⊎ ((given ≡ 7) × Rose faults faults_now × GotFront before after text)
+
 -- The sink that had `before` has all of the text behind it, and the status is that of the reply; or it has a front part
 -- of the text, and the status is 7.
 abbrev pub Shown : (before after : Option (List ℕ)) → List ℕ → Reply → ℕ → Type 0
 Shown before after text reply status_now =
     ((status_now ≡ status reply) × Got before after text)
-    ⊎ ((status_now ≡ 7) × ((n : ℕ) × Got before after (take n text)))
+    ⊎ ((status_now ≡ 7) × GotFront before after text)

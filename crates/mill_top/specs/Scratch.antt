@@ -1,9 +1,9 @@
 -- What a command's tasks are, evaluated from scratch: plain recursion over the graph. Nothing here knows a hash, an entry
 -- or a store.
-use Rattle.std.specs.Prelude.{ℕ, ℤ, pos, ◌+ℤ◌, ◌-ℤ◌, ◌*ℤ◌, zero, suc, List, [], ◌∷◌, length, Option, Some, None, option_and_then, unwrap_or}
+use Rattle.std.specs.Prelude.{◌≡◌, ℕ, ℤ, pos, ◌+ℤ◌, ◌-ℤ◌, ◌*ℤ◌, zero, suc, List, [], ◌∷◌, ◌++◌, length, Option, Some, None, IfSome, option_and_then, unwrap_or}
 use Rattle.std.specs.Int.{w32, int_wrap}
 use Rattle.std.specs.Option.{option_map}
-use Rattle.io_traits.specs.Files.{Files}
+use Rattle.io_traits.specs.Files.{Files, get}
 use Rattle.mill_top.specs.declared.operation.Operation.{Operation}
 use Rattle.mill_top.specs.declared.operation.Operation.TheVariants.{Sum, Difference, Product}
 use Rattle.mill_top.specs.declared.outcome.Outcome.{Outcome}
@@ -51,3 +51,8 @@ scratch inputs task = scratch_in (build_graph inputs.files) task
 abbrev pub file_of : List ℕ → Option (List ℕ) → Files
 file_of name (Some bytes) = (name, bytes) ∷ []
 file_of name None = []
+
+-- The file of a name was added, where the content tells it; nothing where it has none.
+abbrev pub IsFileAdded : Option Files → List ℕ → (files files_now : Files) → Type 0
+IsFileAdded content name files files_now =
+    (found : Option (List ℕ)) × IfSome content (λ told. found ≡ get told name) × (files_now ≡ files ++ file_of name found)

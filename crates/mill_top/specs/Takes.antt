@@ -8,8 +8,8 @@ use Rattle.out_entry.specs.declared.entry.Entry.{Entry}
 use Rattle.out_store.specs.Generations.{Reads}
 use Rattle.out_store.specs.Numbers.{IsNext}
 use Rattle.out_store.specs.declared.numbers.Numbers.{Numbers}
-use Rattle.mill_top.specs.declared.takes.Found.{Found}
-use Rattle.mill_top.specs.declared.takes.Found.TheVariants.{Missing, Other, Same}
+use Rattle.mill_top.specs.declared.takes.FoundEntry.{FoundEntry}
+use Rattle.mill_top.specs.declared.takes.FoundEntry.TheVariants.{Missing, Other, Same}
 use Rattle.mill_top.specs.declared.recorded.Record.{Record}
 use Rattle.mill_top.specs.declared.outcome.Outcome.{Outcome}
 use Rattle.mill_top.specs.declared.outcome.Outcome.TheVariants.{Returns}
@@ -28,13 +28,13 @@ HoldsNoInt entry = (value : ℤ) → as_short entry.value ≢ int value
 
 -- The reason among the files: an entry of another input hash reads, or one of this hash that holds an int, or neither, so
 -- that no entry reads but one of this hash that holds no int.
-abbrev pub Why : Files → (task input : List ℕ) → Found → Type 0
+abbrev pub Why : Files → (task input : List ℕ) → FoundEntry → Type 0
 Why files task input Missing = (entry : Entry) → Reads files task entry → (entry.input ≡ input) × HoldsNoInt entry
 Why files task input (Other other) = (other ≢ input) × ((entry : Entry) × Reads files task entry × (entry.input ≡ other))
 Why files task input (Same same) = (same ≡ input) × ((entry : Entry) × (value : ℤ) × ReadsInt files task entry value × (entry.input ≡ same))
 
 -- no entry is reused
-abbrev pub IsNew : Found → Type 0
+abbrev pub IsNew : FoundEntry → Type 0
 IsNew (Same input) = ⊥
 IsNew found = Unit {0}
 
@@ -42,7 +42,7 @@ IsNew found = Unit {0}
 pub record Take : Type 0 where
   pub task : List ℕ
   pub input : List ℕ
-  pub found : Found
+  pub found : FoundEntry
   pub value : ℤ
   pub generation : ℕ
 
@@ -50,16 +50,16 @@ abbrev pub task_of : Take → List ℕ
 task_of take = take.task
 
 -- the task and what was found
-abbrev pub seen : Take → List ℕ × Found
+abbrev pub seen : Take → List ℕ × FoundEntry
 seen take = (take.task, take.found)
 
 -- The value that a take gives over this content: that of the entry which is reused, or else that of the outcome.
-abbrev pub IsGivenBy : Option Files → List ℕ → Found → Outcome → ℤ → Type 0
+abbrev pub IsGivenBy : Option Files → List ℕ → FoundEntry → Outcome → ℤ → Type 0
 IsGivenBy content task (Same same) outcome value = IfSome content (λ files. (entry : Entry) × ReadsInt files task entry value × (entry.input ≡ same))
 IsGivenBy content task found outcome value = (log : List (List ℕ)) × (outcome ≡ Returns value log)
 
 -- the generation of the entry that a run puts, where the store tells its content: the least number that isn't used
-abbrev pub IsPutUnder : Numbers → Option Files → List ℕ → Found → ℕ → Type 0
+abbrev pub IsPutUnder : Numbers → Option Files → List ℕ → FoundEntry → ℕ → Type 0
 IsPutUnder numbers content task (Same same) generation = Unit {0}
 IsPutUnder numbers content task found generation = IfSome content (λ files. IsNext numbers task generation)
 
@@ -99,11 +99,11 @@ AreGiven inputs numbers content (take ∷ earlier) = IsGiven inputs numbers cont
 -- ---- runs
 
 -- the run of a task that was not reused and whose outcome from scratch returns
-abbrev pub run_of : Record → List ℕ → Found → Option Outcome → List Run
+abbrev pub run_of : Record → List ℕ → FoundEntry → Option Outcome → List Run
 run_of inputs task (Same input) outcome = []
 run_of inputs task found None = []
 run_of inputs task found (Some outcome) = record { inputs = inputs; task = task } ∷ []
 
 -- the runs of these takes
-abbrev pub runs_of : Record → List (List ℕ × Found) → List Run
+abbrev pub runs_of : Record → List (List ℕ × FoundEntry) → List Run
 runs_of inputs takes = flat_map (λ take. run_of inputs take.0 take.1 (scratch inputs take.0)) takes

@@ -13,8 +13,9 @@ use Rattle.out_store.specs.declared.numbers.Numbers.{Numbers}
 use Rattle.mill_top.specs.declared.outcome.Outcome.{Outcome}
 use Rattle.mill_top.specs.declared.outcome.Outcome.TheVariants.{Returns}
 use Rattle.mill_top.specs.declared.recorded.Record.{Record}
-use Rattle.mill_top.specs.declared.takes.Found.{Found}
-use Rattle.mill_top.specs.declared.takes.Found.TheVariants.{Same}
+use Rattle.mill_top.specs.declared.takes.FoundEntry.{FoundEntry}
+use Rattle.mill_top.specs.declared.takes.FoundEntry.TheVariants.{Same}
+use Rattle.mill_top.specs.declared.taking.Job.{Job}
 use Rattle.mill_top.specs.declared.task_file.TaskFile.{TaskFile}
 use Rattle.mill_top.specs.Chains.{IsChain}
 use Rattle.mill_top.specs.Graphs.{task_name}
@@ -40,7 +41,7 @@ pub record IsPut (run : Finished) (numbers numbers_now : Numbers) (old new : Opt
   pub out : new ≡ puts_in (puts_of run number) old
 
 -- the row of the run of a take, if it ran
-abbrev pub row_put : Found → Take → List Row
+abbrev pub row_put : FoundEntry → Take → List Row
 row_put (Same input) take = []
 row_put found take = row_of (finished_of take) ∷ []
 
@@ -53,14 +54,14 @@ abbrev pub IsEnd : Take → (old new : Option Files) → Result ℤ OutFault →
 IsEnd take old new result = MatchResult result (λ value. (value ≡ take.value) × (new ≡ after_take take old)) (λ fault. MayLeaveTake take old new)
 
 -- nothing was taken, and all is as it was
-pub record IsUntaken (numbers numbers_now : Numbers) (old new : Option Files) (result : Result ℤ OutFault) (takes takes_now : List (List ℕ × Found)) : Type 0 where
+pub record IsUntaken (numbers numbers_now : Numbers) (old new : Option Files) (result : Result ℤ OutFault) (takes takes_now : List (List ℕ × FoundEntry)) : Type 0 where
   pub stopped : IsErr result
   pub none_more : takes_now ≡ takes
   pub same_numbers : numbers_now ≡ numbers
   pub out : new ≡ old
 
 -- the task with this input hash and outcome was taken
-pub record IsTaken (task input : List ℕ) (outcome : Outcome) (numbers numbers_now : Numbers) (old new : Option Files) (result : Result ℤ OutFault) (takes takes_now : List (List ℕ × Found)) : Type 0 where
+pub record IsTaken (task input : List ℕ) (outcome : Outcome) (numbers numbers_now : Numbers) (old new : Option Files) (result : Result ℤ OutFault) (takes takes_now : List (List ℕ × FoundEntry)) : Type 0 where
   pub take : Take
   pub is_take : IsTakeOf task input outcome numbers old take
   pub one_more : takes_now ≡ takes ++ seen take ∷ []
@@ -68,12 +69,17 @@ pub record IsTaken (task input : List ℕ) (outcome : Outcome) (numbers numbers_
   pub others : OthersUse task numbers numbers_now
   pub rows : LeavesStanding numbers numbers_now old new (row_put take.found take)
 
-abbrev pub IsStep : (task input : List ℕ) → Outcome → (numbers numbers_now : Numbers) → (old new : Option Files) → Result ℤ OutFault → (takes takes_now : List (List ℕ × Found)) → Type 0
+abbrev pub IsStep : (task input : List ℕ) → Outcome → (numbers numbers_now : Numbers) → (old new : Option Files) → Result ℤ OutFault → (takes takes_now : List (List ℕ × FoundEntry)) → Type 0
 IsStep task input outcome numbers numbers_now old new result takes takes_now =
     IsUntaken numbers numbers_now old new result takes takes_now ⊎ IsTaken task input outcome numbers numbers_now old new result takes takes_now
 
+-- the same for a job, of which the outcome is that of its body over the value that it is given
+abbrev pub IsJobStep : Job → (numbers numbers_now : Numbers) → (old new : Option Files) → Result ℤ OutFault → (takes takes_now : List (List ℕ × FoundEntry)) → Type 0
+IsJobStep job numbers numbers_now old new result takes takes_now =
+    IsStep job.task job.input (Returns (result_of job.body job.given) []) numbers numbers_now old new result takes takes_now
+
 -- the same for the task of a file, given the value of its input
-abbrev pub IsFileStep : Record → TaskFile → Option ℤ → (numbers numbers_now : Numbers) → (old new : Option Files) → Result ℤ OutFault → (takes takes_now : List (List ℕ × Found)) → Type 0
+abbrev pub IsFileStep : Record → TaskFile → Option ℤ → (numbers numbers_now : Numbers) → (old new : Option Files) → Result ℤ OutFault → (takes takes_now : List (List ℕ × FoundEntry)) → Type 0
 IsFileStep inputs file given numbers numbers_now old new result takes takes_now =
     IsUntaken numbers numbers_now old new result takes takes_now
     ⊎ (IsDigested inputs (task_name file) (option_to_list given)
@@ -98,7 +104,7 @@ latest_value [] = None
 latest_value (take ∷ earlier) = Some take.value
 
 -- all but the rest of a plan was taken
-pub record IsWalked (inputs : Record) (plan : List TaskFile) (numbers numbers_now : Numbers) (old new : Option Files) (takes : List (List ℕ × Found)) (rest : List TaskFile) (value : Option ℤ) : Type 0 where
+pub record IsWalked (inputs : Record) (plan : List TaskFile) (numbers numbers_now : Numbers) (old new : Option Files) (takes : List (List ℕ × FoundEntry)) (rest : List TaskFile) (value : Option ℤ) : Type 0 where
   pub done : List Take
   pub taken : AreTaken inputs plan numbers old takes done rest
   pub out : new ≡ after_takes done old
@@ -109,7 +115,7 @@ pub record IsWalked (inputs : Record) (plan : List TaskFile) (numbers numbers_no
   pub rows : LeavesStanding numbers numbers_now old new (rows_put done)
 
 -- a part of a plan was taken, of which the last may have ended early
-pub record IsStopped (inputs : Record) (plan : List TaskFile) (numbers numbers_now : Numbers) (old new : Option Files) (takes : List (List ℕ × Found)) : Type 0 where
+pub record IsStopped (inputs : Record) (plan : List TaskFile) (numbers numbers_now : Numbers) (old new : Option Files) (takes : List (List ℕ × FoundEntry)) : Type 0 where
   pub done : List Take
   pub rest : List TaskFile
   pub taken : AreTaken inputs plan numbers old takes done rest

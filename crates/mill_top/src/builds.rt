@@ -4,7 +4,7 @@ ghost use Rattle.std.specs.Prelude.{◌≡◌, ◌&&◌, not, IfOk};
 ghost use Rattle.std.specs.Option.{option_copied};
 ghost use Rattle.std.specs.Str.{bytes_eq};
 ghost use Rattle.class_read.specs.ClassFiles.{is_class_path};
-ghost use Rattle.mill_top.specs.Builds.{task_file_of, class_path, is_in_place, first_out_of_place};
+ghost use Rattle.mill_top.specs.Builds.{class_path, is_in_place, is_out_of_place, first_out_of_place};
 ghost use Rattle.mill_top.specs.Graphs.{task_files};
 
 use crate::task_file::TaskFile;
@@ -31,7 +31,7 @@ fn is_in_place(path: &[u8], file: Option<TaskFile>) -> bool
 }
 
 fn is_out_of_place(file: &(Path, Bytes)) -> bool
-    ensures { result ≡ (is_class_path file.now.0 && not (is_in_place file.now.0 (task_file_of file.now.1))) }
+    ensures { result ≡ is_out_of_place file.now }
 {
     let path = file.0.as_slice();
     is_class_path(path) && !is_in_place(path, TaskFile::read(file.1.as_slice()))

@@ -5,12 +5,10 @@ ghost use Rattle.std.specs.Int.{w32};
 ghost use Rattle.out_store.specs.Faults.{HasCause};
 ghost use Rattle.mill_top.specs.Chains.{IsChain};
 ghost use Rattle.mill_top.specs.Graphs.{task_in, task_name, plan};
-ghost use Rattle.mill_top.specs.Inputs.{Run, Clean, input_hash, IsDigested};
+ghost use Rattle.mill_top.specs.Inputs.{input_hash, IsDigested};
 ghost use Rattle.mill_top.specs.Replies.{refusal};
 ghost use Rattle.mill_top.specs.Walks.{HasNext, IsReady, IsFileStep, IsWalked, IsStopped};
-ghost use Rattle.mill_top.specs.Answers.{IsAnswerOfLoaded, IsEvaluation, all_texts};
-ghost use Rattle.mill_top.specs.Standing.{StandsIn};
-ghost use Rattle.mill_top.specs.Takes.{runs_of};
+ghost use Rattle.mill_top.specs.Answers.{IsAnswerOfLoaded, IsEvaluation, StandsForMore};
 ghost use Rattle.mill_top.specs.Words.{asked};
 
 use crate::inputs::input_hash;
@@ -78,7 +76,8 @@ fn prepare(
     requires low { 97 ≤ file.task }
     requires high { file.task ≤ 122 }
     ensures task { IfOk result (λ job. job.task ≡ task_name file) }
-    ensures input { IfOk result (λ job. job.input ≡ input_hash inputs.now (task_name file) (option_to_list given)) }
+    ensures input { IfOk result (λ job. job.input
+        ≡ input_hash inputs.now (task_name file) (option_to_list given)) }
     ensures body { IfOk result (λ job. job.body ≡ file.body) }
     ensures given { IfOk result (λ job. job.given ≡ given) }
     ensures digested { OnOk result (IsDigested inputs.now (task_name file) (option_to_list given)) }
@@ -105,7 +104,8 @@ fn take_file<S: Store>(
     requires high { file.task ≤ 122 }
     requires next { HasNext out.old.numbers (S.content out.old.store) (task_name file) }
     ensures fits { IfOk result (FitsSigned w32) }
-    ensures step { IsFileStep inputs.now file given out.old.numbers out.new.numbers (S.content out.old.store) (S.content out.new.store) result takes.old takes.new }
+    ensures step { IsFileStep inputs.now file given out.old.numbers out.new.numbers
+        (S.content out.old.store) (S.content out.new.store) result takes.old takes.new }
     ensures cause { HasCause (S.faults out.old.store) (S.faults out.new.store) result }
     ensures kept { S.kept out.new.store ≡ S.kept out.old.store }
     ensures plan { S.plan out.new.store ≡ S.plan out.old.store }
@@ -126,8 +126,10 @@ fn take_all<S: Store>(
     requires empty { takes.old ≡ [] }
     requires ready { IsReady out.old.numbers (S.content out.old.store) }
     ensures fits { IfOk result (λ value. IfSome value (FitsSigned w32)) }
-    ensures ok { IfOk result (λ value. IsWalked inputs.now plan.now out.old.numbers out.new.numbers (S.content out.old.store) (S.content out.new.store) takes.new [] value) }
-    ensures err { OnErr result (IsStopped inputs.now plan.now out.old.numbers out.new.numbers (S.content out.old.store) (S.content out.new.store) takes.new) }
+    ensures ok { IfOk result (λ value. IsWalked inputs.now plan.now out.old.numbers out.new.numbers
+        (S.content out.old.store) (S.content out.new.store) takes.new [] value) }
+    ensures err { OnErr result (IsStopped inputs.now plan.now out.old.numbers out.new.numbers
+        (S.content out.old.store) (S.content out.new.store) takes.new) }
     ensures cause { HasCause (S.faults out.old.store) (S.faults out.new.store) result }
     ensures kept { S.kept out.new.store ≡ S.kept out.old.store }
     ensures plan { S.plan out.new.store ≡ S.plan out.old.store }
@@ -151,8 +153,11 @@ pub fn evaluate<S: Store>(
     requires accepted { refusal inputs.now task.now ≡ None }
     requires is_plan { planned.now ≡ plan inputs.now.files task.now }
     requires ready { IsReady out.old.numbers (S.content out.old.store) }
-    ensures answer { IsAnswerOfLoaded inputs.now task.now (S.faults out.old.store) (S.faults out.new.store) out.old.numbers (S.content out.old.store) (S.content out.new.store) result.reply result.takes }
-    ensures stands { (runs : List Run) (lost : List (List ℕ)) → StandsIn (S.content out.old.store) runs lost → Clean (all_texts inputs.now runs) → StandsIn (S.content out.new.store) (runs ++ runs_of inputs.now result.takes) lost }
+    ensures answer { IsAnswerOfLoaded inputs.now task.now
+        (S.faults out.old.store) (S.faults out.new.store) out.old.numbers
+        (S.content out.old.store) (S.content out.new.store) result.reply result.takes }
+    ensures stands { StandsForMore inputs.now result.takes
+        (S.content out.old.store) (S.content out.new.store) }
     ensures later { S.faults out.old.store ≤ S.faults out.new.store }
     ensures kept { S.kept out.new.store ≡ S.kept out.old.store }
     ensures plan { S.plan out.new.store ≡ S.plan out.old.store }

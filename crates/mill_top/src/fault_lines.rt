@@ -27,7 +27,8 @@ fn push_number(
 }
 
 fn push_named(text: &mut Vec<u8>, front: &[u8], name: &Name) -> Result<(), AllocError>
-    ensures { OnOk result (text.new.items ≡ text.old.items ++ (front.now ++ line_of_name name.now)) }
+    ensures { OnOk result
+        (text.new.items ≡ text.old.items ++ (front.now ++ line_of_name name.now)) }
 {
     text.extend_from_slice(front)?;
     push_name(text, name)

@@ -2,7 +2,7 @@
 
 ghost use Rattle.std.specs.Prelude.{◌≡◌, find, is_some, slice_index_or, ◌⊎◌, ◌++◌, ◌==◌, ◌<◌, map, nat_le, count_by, Some, None, IfOk, IfErr, OnOk, MatchOption, IsSome};
 ghost use Rattle.mill_top.specs.Tables.{placed};
-ghost use Rattle.mill_top.specs.Graphs.{letters, file_with, graph_of, named, build_graph, duplicate_task, unknown_input_of, unknown_input, leads, cycle, refusal_of_graph, refusal_of_tasks, refusal_of_build, upstream, plan_in};
+ghost use Rattle.mill_top.specs.Graphs.{letters, file_with, graph_of, named, build_graph, duplicate_task, unknown_input_of, unknown_input, leads, cycle, refusal_of_graph, refusal_of_tasks, refusal_of_build, upstream, plan_in, IsRefusalUnlessMemory};
 
 use crate::build_fault::BuildFault;
 use crate::builds::{first_out_of_place, task_files};
@@ -221,7 +221,8 @@ impl Graph {
     /// where the graph has no such task.
     #[tactic(auto, unfolding(crate::specs::Graphs::plan_in))]
     pub fn plan(&self, alloc: Global, task: &Text) -> Result<Option<Vec<TaskFile>>, AllocError>
-        ensures { IfOk result (λ plan. MatchOption plan (named self.now task.now ≡ None) (λ plan. IsSome (named self.now task.now) × (plan.items ≡ plan_in self.now task.now))) }
+        ensures { IfOk result (λ plan. MatchOption plan (named self.now task.now ≡ None)
+            (λ plan. IsSome (named self.now task.now) × (plan.items ≡ plan_in self.now task.now))) }
     {
         match task.as_slice() {
             [task] if self.file_with(*task).is_some() => {
@@ -238,7 +239,7 @@ impl Graph {
 fn graph_of_tasks(alloc: Global, files: &[TaskFile]) -> Result<Graph, BuildFault>
     ensures accepted { OnOk result (refusal_of_tasks files.now ≡ None) }
     ensures graph { IfOk result (λ graph. graph ≡ graph_of files.now) }
-    ensures refused { IfErr result (λ fault. (refusal_of_tasks files.now ≡ Some fault) ⊎ (fault ≡ BuildFault.Memory)) }
+    ensures refused { IfErr result (IsRefusalUnlessMemory (refusal_of_tasks files.now)) }
 {
     if let Some(task) = duplicate_task(files) {
         return Err(BuildFault::DuplicateTask(task));
@@ -256,7 +257,7 @@ fn graph_of_tasks(alloc: Global, files: &[TaskFile]) -> Result<Graph, BuildFault
 pub fn graph_of(alloc: Global, files: &[(Path, Bytes)]) -> Result<Graph, BuildFault>
     ensures accepted { OnOk result (refusal_of_build files.now ≡ None) }
     ensures graph { IfOk result (λ graph. graph ≡ build_graph files.now) }
-    ensures refused { IfErr result (λ fault. (refusal_of_build files.now ≡ Some fault) ⊎ (fault ≡ BuildFault.Memory)) }
+    ensures refused { IfErr result (IsRefusalUnlessMemory (refusal_of_build files.now)) }
 {
     if let Some(file) = first_out_of_place(files) {
         return Err(BuildFault::NotBuilt(file.0.copy()?));

@@ -94,7 +94,8 @@ fn value_hash(alloc: Global, value: i32) -> Result<Digest, AllocError>
 
 // The values of the inputs, of which there is one at most.
 fn push_values(text: &mut Vec<u8>, alloc: Global, given: Option<i32>) -> Result<(), AllocError>
-    ensures { OnOk result (text.new.items ≡ text.old.items ++ nets (flat_map value_fields (option_to_list given))) }
+    ensures { OnOk result (text.new.items
+        ≡ text.old.items ++ nets (flat_map value_fields (option_to_list given))) }
 {
     match given {
         Some(value) => {
@@ -114,7 +115,8 @@ fn input_text(
     given: Option<i32>,
 ) -> Result<Vec<u8>, AllocError>
     requires { task_in inputs.now.files (task_name file) ≡ Some file }
-    ensures text { IfOk result (λ text. text.items ≡ input_text inputs.now (task_name file) (option_to_list given)) }
+    ensures text { IfOk result (λ text. text.items
+        ≡ input_text inputs.now (task_name file) (option_to_list given)) }
     ensures method { OnOk result (length (method_text inputs.now (task_name file)) < 2 ^ 64) }
 {
     let method = method_hash(alloc, inputs, file)?;
@@ -138,7 +140,8 @@ pub fn input_hash(
     given: Option<i32>,
 ) -> Result<Digest, AllocError>
     requires { task_in inputs.now.files (task_name file) ≡ Some file }
-    ensures hash { IfOk result (λ hash. hash ≡ input_hash inputs.now (task_name file) (option_to_list given)) }
+    ensures hash { IfOk result (λ hash. hash
+        ≡ input_hash inputs.now (task_name file) (option_to_list given)) }
     ensures digested { OnOk result (IsDigested inputs.now (task_name file) (option_to_list given)) }
 {
     let text = input_text(alloc, inputs, file, given)?;

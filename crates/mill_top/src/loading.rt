@@ -40,9 +40,11 @@ fn too_long(path: &Path) -> BuildFault
 #[tactic(auto, using(crate::proofs::LoadingLaws::apart))]
 pub fn load(alloc: Global, files: &Tree) -> Result<ProgramOk, BuildFault>
     ensures ok { OnOk result (IsLoaded files.now) }
-    ensures err { IfErr result (λ fault. (own : BuildFault) × IsUnloaded files.now own × ((fault ≡ own) ⊎ (fault ≡ BuildFault.Memory))) }
+    ensures err { IfErr result (λ fault. (own : BuildFault) × IsUnloaded files.now own
+        × ((fault ≡ own) ⊎ (fault ≡ BuildFault.Memory))) }
     // What is loaded is refused for nothing but want of memory.
-    ensures apart { IsLoaded files.now → (own : BuildFault) → IsUnloaded files.now own → wants_memory own ≡ true }
+    ensures apart { IsLoaded files.now → (own : BuildFault) → IsUnloaded files.now own
+        → wants_memory own ≡ true }
 {
     if let Some(file) = first_too_long(files.as_slice()) {
         return Err(too_long(&file.0));

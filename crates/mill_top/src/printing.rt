@@ -4,7 +4,7 @@ ghost use Rattle.std.specs.Prelude.{◌≡◌, ◌++◌, IfOk, OnOk};
 ghost use Rattle.mill_top.specs.Replies.{explained, in_name_order, explanation, before_line, printed};
 
 use crate::reply::Reply;
-use crate::takes::{Found, Takes};
+use crate::takes::{FoundEntry, Takes};
 use std::alloc::{AllocError, Global};
 use std::collections::BTreeMap;
 use tree_value::{CopyFault, Text};
@@ -18,17 +18,17 @@ fn push_all(text: &mut Vec<u8>, first: &[u8], second: &[u8]) -> Result<(), Alloc
 }
 
 // The line of a task that ran.
-fn push_explained(text: &mut Vec<u8>, task: &Text, found: &Found) -> Result<(), AllocError>
+fn push_explained(text: &mut Vec<u8>, task: &Text, found: &FoundEntry) -> Result<(), AllocError>
     ensures { OnOk result (text.new.items ≡ text.old.items ++ explained task.now found.now) }
 {
     match found {
-        Found::Missing => push_all(text, task.as_slice(), b" ran: missing\n"),
-        Found::Other(_) => push_all(text, task.as_slice(), b" ran: changed\n"),
-        Found::Same(_) => Ok(()),
+        FoundEntry::Missing => push_all(text, task.as_slice(), b" ran: missing\n"),
+        FoundEntry::Other(_) => push_all(text, task.as_slice(), b" ran: changed\n"),
+        FoundEntry::Same(_) => Ok(()),
     }
 }
 
-fn in_name_order(alloc: Global, takes: &Takes) -> Result<BTreeMap<Text, Found>, CopyFault>
+fn in_name_order(alloc: Global, takes: &Takes) -> Result<BTreeMap<Text, FoundEntry>, CopyFault>
     ensures { IfOk result (λ ordered. ordered.entries ≡ in_name_order takes.now) }
 {
     let mut ordered = BTreeMap::new(alloc);

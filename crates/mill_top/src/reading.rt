@@ -1,9 +1,9 @@
 //! Reading a workspace.
 
-ghost use Rattle.std.specs.Prelude.{◌≡◌, ◌++◌, List, ℕ, Option, IfOk, IfSome, OnOk};
+ghost use Rattle.std.specs.Prelude.{◌≡◌, IfOk, IfSome, OnOk};
 ghost use Rattle.io_traits.specs.Causes.{HasCause};
-ghost use Rattle.io_traits.specs.Files.{get, names, IsInOrder};
-ghost use Rattle.mill_top.specs.Scratch.{file_of};
+ghost use Rattle.io_traits.specs.Files.{names, IsInOrder};
+ghost use Rattle.mill_top.specs.Scratch.{IsFileAdded};
 
 use io_traits::{IoFault, Workspace};
 use std::alloc::Global;
@@ -15,7 +15,8 @@ fn add_file<W: Workspace>(
     name: &Path,
     files: &mut Vec<(Path, Bytes)>,
 ) -> Result<(), IoFault>
-    ensures added { OnOk result ((found : Option (List ℕ)) × IfSome (W.content workspace.old) (λ told. found ≡ get told name.now) × (files.new.items ≡ files.old.items ++ file_of name.now found)) }
+    ensures added { OnOk result
+        (IsFileAdded (W.content workspace.old) name.now files.old.items files.new.items) }
     ensures content { W.content workspace.new ≡ W.content workspace.old }
     ensures cause { HasCause (W.faults workspace.old) (W.faults workspace.new) result }
     ensures kept { W.kept workspace.new ≡ W.kept workspace.old }

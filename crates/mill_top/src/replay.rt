@@ -22,7 +22,8 @@ struct Stage {
 }
 
 fn edit(workspace: &mut MemWorkspace, path: &Path, bytes: &Option<Bytes>) -> Result<(), ReplayFault>
-    ensures ok { OnOk result (workspace.new ≡ record workspace.old { contents = set_to path.now bytes.now workspace.old.contents }) }
+    ensures ok { OnOk result (workspace.new
+        ≡ record workspace.old { contents = set_to path.now bytes.now workspace.old.contents }) }
     ensures err { OnErr result (workspace.new ≡ workspace.old) }
 {
     let bytes = match bytes {
@@ -38,7 +39,8 @@ impl Stage {
     fn ready(&mut self, alloc: Global) -> Result<MemSink, ReplayFault>
         ensures rests { IsAsBefore self.old self.new }
         ensures takes_room { OnOk result (vec_len self.new.takes < vec_capacity self.new.takes) }
-        ensures replies_room { OnOk result (vec_len self.new.replies < vec_capacity self.new.replies) }
+        ensures replies_room { OnOk result
+            (vec_len self.new.replies < vec_capacity self.new.replies) }
         ensures sink { IfOk result IsFirst }
     {
         self.takes.reserve(1)?;
@@ -108,7 +110,8 @@ impl Stage {
         moment: u64,
     ) -> (Stage, Result<(), ReplayFault>)
         ensures ok { OnOk result.1 (HasShown words.now environment.now moment self result.0) }
-        ensures err { OnErr result.1 (IsAsBefore self result.0 ⊎ HasRun words.now environment.now moment self result.0) }
+        ensures err { OnErr result.1 (IsAsBefore self result.0
+            ⊎ HasRun words.now environment.now moment self result.0) }
     {
         match self.ready(alloc) {
             Ok(sink) => {
@@ -143,7 +146,12 @@ impl Stage {
 
     // All steps were made.
     fn whole(self) -> Replayed
-        ensures { result ≡ record { store = self.store; workspace = self.workspace; takes = self.takes.items; end = Ok self.replies.items } }
+        ensures { result ≡ record {
+          store = self.store;
+          workspace = self.workspace;
+          takes = self.takes.items;
+          end = Ok self.replies.items;
+        } }
     {
         Replayed {
             store: self.store,
@@ -155,7 +163,12 @@ impl Stage {
 
     // The script ends here.
     fn broken(self, fault: ReplayFault) -> Replayed
-        ensures { result ≡ record { store = self.store; workspace = self.workspace; takes = self.takes.items; end = Err fault } }
+        ensures { result ≡ record {
+          store = self.store;
+          workspace = self.workspace;
+          takes = self.takes.items;
+          end = Err fault;
+        } }
     {
         Replayed {
             store: self.store,

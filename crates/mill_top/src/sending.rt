@@ -1,15 +1,16 @@
 //! Writing to a sink.
 
-ghost use Rattle.std.specs.Prelude.{◌≡◌, ℕ, take, OnOk, OnErr, IsErrOf};
+ghost use Rattle.std.specs.Prelude.{◌≡◌, OnOk, OnErr, IsErrOf};
 ghost use Rattle.io_traits.specs.Causes.{HasCause};
 ghost use Rattle.io_traits.specs.Streams.{Got};
+ghost use Rattle.mill_top.specs.Replies.{GotFront};
 
 use io_traits::{IoFault, Sink};
 
 /// Writes all the bytes. After a failure a front part of them is out.
 pub fn send<K: Sink>(sink: &mut K, bytes: &[u8]) -> Result<(), IoFault>
     ensures ok { OnOk result (Got (K.got sink.old) (K.got sink.new) bytes.now) }
-    ensures err { OnErr result ((n : ℕ) × Got (K.got sink.old) (K.got sink.new) (take n bytes.now)) }
+    ensures err { OnErr result (GotFront (K.got sink.old) (K.got sink.new) bytes.now) }
     ensures never_memory { ¬ IsErrOf result IoFault.Memory }
     ensures cause { HasCause (K.faults sink.old) (K.faults sink.new) result }
     ensures kept { K.kept sink.new ≡ K.kept sink.old }

@@ -8,7 +8,7 @@ use tree_value::{Digest, Text};
 
 /// What stood under a task's entry name.
 #[derive(Clone, Copy, Debug, PartialEq, Eq)]
-pub enum Found {
+pub enum FoundEntry {
     /// No entry that reads, or one of the task's input hash that holds no int, as no run leaves it.
     Missing,
     /// An entry of another input hash, which it names.
@@ -20,14 +20,14 @@ pub enum Found {
 /// Tasks, each with what was found.
 #[derive(Debug, Drop)]
 pub struct Takes {
-    items: Vec<(Text, Found)>,
+    items: Vec<(Text, FoundEntry)>,
 }
 
 impl Model for Takes {
     ghost use Rattle.std.specs.Prelude.{ℕ, List};
-    ghost use Rattle.mill_top.specs.declared.takes.Found.{Found};
+    ghost use Rattle.mill_top.specs.declared.takes.FoundEntry.{FoundEntry};
 
-    ghost Value = { List (List ℕ × Found) };
+    ghost Value = { List (List ℕ × FoundEntry) };
 
     ghost view = { λ takes. takes.items.items };
 }
@@ -43,7 +43,11 @@ impl Takes {
     }
 
     /// Adds a task at the end.
-    pub fn push(&mut self, task: Text, found: Found) -> Result<(), AllocFailed<(Text, Found)>>
+    pub fn push(
+        &mut self,
+        task: Text,
+        found: FoundEntry,
+    ) -> Result<(), AllocFailed<(Text, FoundEntry)>>
         ensures ok { OnOk result (self.new ≡ self.old ++ (task, found) ∷ []) }
         ensures err { OnErr result (self.new ≡ self.old) }
     {
@@ -51,7 +55,7 @@ impl Takes {
     }
 
     /// The tasks in the order in which they were taken.
-    pub fn as_slice(&self) -> &[(Text, Found)]
+    pub fn as_slice(&self) -> &[(Text, FoundEntry)]
         ensures { result.now ≡ self.now }
     {
         &self.items

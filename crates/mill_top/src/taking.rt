@@ -8,14 +8,14 @@ ghost use Rattle.out_store.specs.Generations.{Reads};
 ghost use Rattle.out_store.specs.Names.{IsTaskName};
 ghost use Rattle.out_store.specs.Publishing.{LeftByPublish};
 ghost use Rattle.out_store.specs.Standing.{row_of};
-ghost use Rattle.mill_top.specs.declared.takes.Found.{Found};
+ghost use Rattle.mill_top.specs.declared.takes.FoundEntry.{FoundEntry};
 ghost use Rattle.mill_top.specs.Scratch.{result_of, value_of};
 ghost use Rattle.mill_top.specs.Takes.{Why, IsNew};
 ghost use Rattle.mill_top.specs.Leaving.{finished_by};
-ghost use Rattle.mill_top.specs.Walks.{HasNext, IsPut, IsStep, LeavesStanding};
+ghost use Rattle.mill_top.specs.Walks.{HasNext, IsPut, IsJobStep, LeavesStanding};
 
 use crate::outcome::{Outcome, run};
-use crate::takes::{Found, Takes};
+use crate::takes::{FoundEntry, Takes};
 use crate::task_file::Body;
 use io_traits::Store;
 use out_entry::Entry;
@@ -81,9 +81,12 @@ fn keep<S: Store>(
     out: &mut Out<S>,
 ) -> Result<u32, OutFault>
     requires { IsTaskName job.now.task }
-    ensures ok { IfOk result (IsPut (finished_by job.now.task job.now.input outcome) out.old.numbers out.new.numbers (S.content out.old.store) (S.content out.new.store)) }
-    ensures err { OnErr result (LeftByPublish (finished_by job.now.task job.now.input outcome) out.old.numbers out.new.numbers (S.content out.old.store) (S.content out.new.store)) }
-    ensures rows { LeavesStanding out.old.numbers out.new.numbers (S.content out.old.store) (S.content out.new.store) (row_of (finished_by job.now.task job.now.input outcome) ∷ []) }
+    ensures ok { IfOk result (IsPut (finished_by job.now.task job.now.input outcome) out.old.numbers
+        out.new.numbers (S.content out.old.store) (S.content out.new.store)) }
+    ensures err { OnErr result (LeftByPublish (finished_by job.now.task job.now.input outcome)
+        out.old.numbers out.new.numbers (S.content out.old.store) (S.content out.new.store)) }
+    ensures rows { LeavesStanding out.old.numbers out.new.numbers (S.content out.old.store)
+        (S.content out.new.store) (row_of (finished_by job.now.task job.now.input outcome) ∷ []) }
     ensures cause { HasCause (S.faults out.old.store) (S.faults out.new.store) result }
     ensures kept { S.kept out.new.store ≡ S.kept out.old.store }
     ensures plan { S.plan out.new.store ≡ S.plan out.old.store }
@@ -96,16 +99,18 @@ fn keep<S: Store>(
 fn run_task<S: Store>(
     alloc: Global,
     job: &Job,
-    found: Found,
+    found: FoundEntry,
     out: &mut Out<S>,
     takes: &mut Takes,
 ) -> Result<i32, OutFault>
     requires named { IsTaskName job.now.task }
     requires is_new { IsNew found }
-    requires why { IfSome (S.content out.old.store) (λ files. Why files job.now.task job.now.input found) }
+    requires why { IfSome (S.content out.old.store)
+        (λ files. Why files job.now.task job.now.input found) }
     requires next { HasNext out.old.numbers (S.content out.old.store) job.now.task }
     ensures fits { IfOk result (FitsSigned w32) }
-    ensures step { IsStep job.now.task job.now.input (Outcome.Returns (result_of job.now.body job.now.given) []) out.old.numbers out.new.numbers (S.content out.old.store) (S.content out.new.store) result takes.old takes.new }
+    ensures step { IsJobStep job.now out.old.numbers out.new.numbers (S.content out.old.store)
+        (S.content out.new.store) result takes.old takes.new }
     ensures cause { HasCause (S.faults out.old.store) (S.faults out.new.store) result }
     ensures kept { S.kept out.new.store ≡ S.kept out.old.store }
     ensures plan { S.plan out.new.store ≡ S.plan out.old.store }
@@ -121,11 +126,12 @@ fn run_task<S: Store>(
 fn reuse(job: &Job, value: i32, takes: &mut Takes) -> Result<i32, OutFault>
     ensures fits { IfOk result (FitsSigned w32) }
     ensures value { IfOk result (λ reused. reused ≡ value) }
-    ensures ok { OnOk result (takes.new ≡ takes.old ++ (job.now.task, Found.Same job.now.input) ∷ []) }
+    ensures ok { OnOk result
+        (takes.new ≡ takes.old ++ (job.now.task, FoundEntry.Same job.now.input) ∷ []) }
     ensures err { OnErr result (takes.new ≡ takes.old) }
     ensures only_memory { result ≡ Err OutFault.Fault → ⊥ }
 {
-    takes.push(job.task.copy()?, Found::Same(job.input))?;
+    takes.push(job.task.copy()?, FoundEntry::Same(job.input))?;
     Ok(value)
 }
 
@@ -138,10 +144,12 @@ fn take_over<S: Store>(
     takes: &mut Takes,
 ) -> Result<i32, OutFault>
     requires named { IsTaskName job.now.task }
-    requires reads { IfSome (S.content out.old.store) (λ files. Reads files job.now.task entry.now) }
+    requires reads { IfSome (S.content out.old.store)
+        (λ files. Reads files job.now.task entry.now) }
     requires next { HasNext out.old.numbers (S.content out.old.store) job.now.task }
     ensures fits { IfOk result (FitsSigned w32) }
-    ensures step { IsStep job.now.task job.now.input (Outcome.Returns (result_of job.now.body job.now.given) []) out.old.numbers out.new.numbers (S.content out.old.store) (S.content out.new.store) result takes.old takes.new }
+    ensures step { IsJobStep job.now out.old.numbers out.new.numbers (S.content out.old.store)
+        (S.content out.new.store) result takes.old takes.new }
     ensures cause { HasCause (S.faults out.old.store) (S.faults out.new.store) result }
     ensures kept { S.kept out.new.store ≡ S.kept out.old.store }
     ensures plan { S.plan out.new.store ≡ S.plan out.old.store }
@@ -149,10 +157,10 @@ fn take_over<S: Store>(
     if entry.input == job.input {
         match int_of(&entry.value) {
             Some(value) => reuse(job, value, takes),
-            None => run_task(alloc, job, Found::Missing, out, takes),
+            None => run_task(alloc, job, FoundEntry::Missing, out, takes),
         }
     } else {
-        run_task(alloc, job, Found::Other(entry.input), out, takes)
+        run_task(alloc, job, FoundEntry::Other(entry.input), out, takes)
     }
 }
 
@@ -166,13 +174,14 @@ pub fn take<S: Store>(
     requires named { IsTaskName job.now.task }
     requires next { HasNext out.old.numbers (S.content out.old.store) job.now.task }
     ensures fits { IfOk result (FitsSigned w32) }
-    ensures step { IsStep job.now.task job.now.input (Outcome.Returns (result_of job.now.body job.now.given) []) out.old.numbers out.new.numbers (S.content out.old.store) (S.content out.new.store) result takes.old takes.new }
+    ensures step { IsJobStep job.now out.old.numbers out.new.numbers (S.content out.old.store)
+        (S.content out.new.store) result takes.old takes.new }
     ensures cause { HasCause (S.faults out.old.store) (S.faults out.new.store) result }
     ensures kept { S.kept out.new.store ≡ S.kept out.old.store }
     ensures plan { S.plan out.new.store ≡ S.plan out.old.store }
 {
     match out.entry(&job.task)? {
         Some(entry) => take_over(alloc, job, &entry, out, takes),
-        None => run_task(alloc, job, Found::Missing, out, takes),
+        None => run_task(alloc, job, FoundEntry::Missing, out, takes),
     }
 }

@@ -1,16 +1,12 @@
 //! The top call.
 
-ghost use Rattle.std.specs.Prelude.{◌≡◌, ◌⊎◌, ◌++◌, ◌≤◌, [], ℕ, List, take, false, Some, None, Option, IfOk, IfErr, IfSome, IsSome, IsNone, OnOk};
+ghost use Rattle.std.specs.Prelude.{◌≡◌, ◌⊎◌, ◌≤◌, [], false, Some, None, IfOk, IfErr, IfSome, IsSome, IsNone, OnOk};
 ghost use Rattle.io_traits.specs.Causes.{Rose, HasCause};
-ghost use Rattle.io_traits.specs.Streams.{Got};
 ghost use Rattle.mill_top.specs.Graphs.{refusal_of_build, named, plan, plan_in};
 ghost use Rattle.mill_top.specs.Words.{asked, explains};
-ghost use Rattle.mill_top.specs.Inputs.{Run, Clean};
-ghost use Rattle.mill_top.specs.Replies.{status, build_reply, refusal, printed, Shown};
-ghost use Rattle.mill_top.specs.Standing.{StandsIn};
-ghost use Rattle.mill_top.specs.Takes.{runs_of};
+ghost use Rattle.mill_top.specs.Replies.{build_reply, refusal, printed, IsSent, Shown};
 ghost use Rattle.mill_top.specs.Walks.{IsReady};
-ghost use Rattle.mill_top.specs.Answers.{IsUnlessMemory, IsRecordOf, IsUnfound, IsUnread, IsAnswer, IsAnswerOfLoaded, IsAnswerTo, all_texts};
+ghost use Rattle.mill_top.specs.Answers.{IsUnlessMemory, IsRecordOf, IsUnfound, IsUnread, IsAnswer, IsAnswerOfLoaded, IsAnswerTo, StandsForMore, StandsForMoreIfRead};
 ghost use Rattle.mill_top.specs.Commands.{device, devices, command, IsCommand};
 
 use crate::build_fault::BuildFault;
@@ -75,7 +71,8 @@ fn no_task(task: &Text) -> Reply
 fn plan_of(alloc: Global, graph: &Graph, task: &Text) -> Result<Vec<TaskFile>, Reply>
     ensures known { OnOk result (IsSome (named graph.now task.now)) }
     ensures plan { IfOk result (λ planned. planned.items ≡ plan_in graph.now task.now) }
-    ensures err { IfErr result (λ reply. (reply ≡ Reply.Memory) ⊎ ((named graph.now task.now ≡ None) × (reply ≡ Reply.NoTask task.now))) }
+    ensures err { IfErr result (λ reply. (reply ≡ Reply.Memory)
+        ⊎ ((named graph.now task.now ≡ None) × (reply ≡ Reply.NoTask task.now))) }
 {
     match graph.plan(alloc, task) {
         Ok(Some(plan)) => Ok(plan),
@@ -86,8 +83,10 @@ fn plan_of(alloc: Global, graph: &Graph, task: &Text) -> Result<Vec<TaskFile>, R
 
 // The plan of the task, or why the record is refused.
 fn choose(alloc: Global, inputs: &Record, task: &Text) -> Result<Vec<TaskFile>, Reply>
-    ensures ok { IfOk result (λ planned. (refusal inputs.now task.now ≡ None) × (planned.items ≡ plan inputs.now.files task.now)) }
-    ensures err { IfErr result (λ reply. (reply ≡ Reply.Memory) ⊎ (refusal inputs.now task.now ≡ Some reply)) }
+    ensures ok { IfOk result (λ planned. (refusal inputs.now task.now ≡ None)
+        × (planned.items ≡ plan inputs.now.files task.now)) }
+    ensures err { IfErr result (λ reply. (reply ≡ Reply.Memory)
+        ⊎ (refusal inputs.now task.now ≡ Some reply)) }
 {
     match graph_of(alloc, inputs.files.as_slice()) {
         Ok(graph) => plan_of(alloc, &graph, task),
@@ -99,8 +98,11 @@ fn choose(alloc: Global, inputs: &Record, task: &Text) -> Result<Vec<TaskFile>, 
 fn taken_of_loaded<S: Store>(alloc: Global, inputs: &Record, task: &Text, out: &mut Out<S>) -> Taken
     requires asks { asked inputs.now.words ≡ Some task.now }
     requires ready { IsReady out.old.numbers (S.content out.old.store) }
-    ensures answer { IsAnswerOfLoaded inputs.now task.now (S.faults out.old.store) (S.faults out.new.store) out.old.numbers (S.content out.old.store) (S.content out.new.store) result.reply result.takes }
-    ensures stands { (runs : List Run) (lost : List (List ℕ)) → StandsIn (S.content out.old.store) runs lost → Clean (all_texts inputs.now runs) → StandsIn (S.content out.new.store) (runs ++ runs_of inputs.now result.takes) lost }
+    ensures answer { IsAnswerOfLoaded inputs.now task.now
+        (S.faults out.old.store) (S.faults out.new.store) out.old.numbers
+        (S.content out.old.store) (S.content out.new.store) result.reply result.takes }
+    ensures stands { StandsForMore inputs.now result.takes
+        (S.content out.old.store) (S.content out.new.store) }
     ensures later { S.faults out.old.store ≤ S.faults out.new.store }
     ensures kept { S.kept out.new.store ≡ S.kept out.old.store }
     ensures plan { S.plan out.new.store ≡ S.plan out.old.store }
@@ -114,8 +116,11 @@ fn taken_of_loaded<S: Store>(alloc: Global, inputs: &Record, task: &Text, out: &
 fn taken<S: Store>(alloc: Global, inputs: &Record, task: &Text, out: &mut Out<S>) -> Taken
     requires asks { asked inputs.now.words ≡ Some task.now }
     requires ready { IsReady out.old.numbers (S.content out.old.store) }
-    ensures answer { IsAnswer inputs.now task.now (S.faults out.old.store) (S.faults out.new.store) out.old.numbers (S.content out.old.store) (S.content out.new.store) result.reply result.takes }
-    ensures stands { (runs : List Run) (lost : List (List ℕ)) → StandsIn (S.content out.old.store) runs lost → Clean (all_texts inputs.now runs) → StandsIn (S.content out.new.store) (runs ++ runs_of inputs.now result.takes) lost }
+    ensures answer { IsAnswer inputs.now task.now
+        (S.faults out.old.store) (S.faults out.new.store) out.old.numbers
+        (S.content out.old.store) (S.content out.new.store) result.reply result.takes }
+    ensures stands { StandsForMore inputs.now result.takes
+        (S.content out.old.store) (S.content out.new.store) }
     ensures later { S.faults out.old.store ≤ S.faults out.new.store }
     ensures kept { S.kept out.new.store ≡ S.kept out.old.store }
     ensures plan { S.plan out.new.store ≡ S.plan out.old.store }
@@ -130,8 +135,10 @@ fn judge<S: Store>(alloc: Global, inputs: Record, task: &Text, mut out: Out<S>) 
     requires asks { asked inputs.words ≡ Some task.now }
     requires ready { IsReady out.numbers (S.content out.store) }
     ensures inputs { result.inputs ≡ Some inputs }
-    ensures answer { IsAnswer inputs task.now (S.faults out.store) (S.faults result.store) out.numbers (S.content out.store) (S.content result.store) result.reply result.takes }
-    ensures stands { (runs : List Run) (lost : List (List ℕ)) → StandsIn (S.content out.store) runs lost → Clean (all_texts inputs runs) → StandsIn (S.content result.store) (runs ++ runs_of inputs result.takes) lost }
+    ensures answer { IsAnswer inputs task.now (S.faults out.store) (S.faults result.store)
+        out.numbers (S.content out.store) (S.content result.store) result.reply result.takes }
+    ensures stands { StandsForMore inputs result.takes
+        (S.content out.store) (S.content result.store) }
     ensures later { S.faults out.store ≤ S.faults result.store }
     ensures kept { S.kept result.store ≡ S.kept out.store }
     ensures plan { S.plan result.store ≡ S.plan out.store }
@@ -152,7 +159,8 @@ fn read_record<W: Workspace>(
     moment: u64,
     workspace: &mut W,
 ) -> Result<Record, IoFault>
-    ensures inputs { IfOk result (IsRecordOf words.now environment.now moment (W.content workspace.old)) }
+    ensures inputs { IfOk result
+        (IsRecordOf words.now environment.now moment (W.content workspace.old)) }
     ensures content { W.content workspace.new ≡ W.content workspace.old }
     ensures cause { HasCause (W.faults workspace.old) (W.faults workspace.new) result }
     ensures kept { W.kept workspace.new ≡ W.kept workspace.old }
@@ -200,10 +208,16 @@ fn answer_opened<S: Store, W: Workspace>(
 ) -> Answer<S>
     requires asks { asked words.now ≡ Some task.now }
     requires ready { IsReady out.numbers (S.content out.store) }
-    ensures unread { IsNone result.inputs → IsUnfound (W.faults workspace.old) (W.faults workspace.new) (S.content out.store) (S.content result.store) result.reply × (result.takes ≡ []) }
-    ensures inputs { IfSome result.inputs (IsRecordOf words.now environment.now moment (W.content workspace.old)) }
-    ensures answer { IfSome result.inputs (λ inputs. IsAnswer inputs task.now (S.faults out.store) (S.faults result.store) out.numbers (S.content out.store) (S.content result.store) result.reply result.takes) }
-    ensures stands { (runs : List Run) (lost : List (List ℕ)) → StandsIn (S.content out.store) runs lost → IfSome result.inputs (λ inputs. Clean (all_texts inputs runs) → StandsIn (S.content result.store) (runs ++ runs_of inputs result.takes) lost) }
+    ensures unread { IsNone result.inputs → IsUnfound (W.faults workspace.old)
+        (W.faults workspace.new) (S.content out.store) (S.content result.store) result.reply
+        × (result.takes ≡ []) }
+    ensures inputs { IfSome result.inputs
+        (IsRecordOf words.now environment.now moment (W.content workspace.old)) }
+    ensures answer { IfSome result.inputs (λ inputs. IsAnswer inputs task.now (S.faults out.store)
+        (S.faults result.store) out.numbers (S.content out.store) (S.content result.store)
+        result.reply result.takes) }
+    ensures stands { StandsForMoreIfRead result.inputs result.takes
+        (S.content out.store) (S.content result.store) }
     ensures workspace { W.content workspace.new ≡ W.content workspace.old }
     ensures store_later { S.faults out.store ≤ S.faults result.store }
     ensures workspace_later { W.faults workspace.old ≤ W.faults workspace.new }
@@ -226,10 +240,16 @@ fn answer_words<S: Store, W: Workspace>(
     store: S,
     workspace: &mut W,
 ) -> Answer<S>
-    ensures unread { IsNone result.inputs → IsUnread words.now (S.faults store) (S.faults result.store) (W.faults workspace.old) (W.faults workspace.new) (S.content store) (S.content result.store) result.reply result.takes }
-    ensures inputs { IfSome result.inputs (IsRecordOf words.now environment.now moment (W.content workspace.old)) }
-    ensures answer { IfSome result.inputs (λ inputs. IsAnswerTo words.now inputs (S.faults store) (S.faults result.store) (S.content store) (S.content result.store) result.reply result.takes) }
-    ensures stands { (runs : List Run) (lost : List (List ℕ)) → StandsIn (S.content store) runs lost → IfSome result.inputs (λ inputs. Clean (all_texts inputs runs) → StandsIn (S.content result.store) (runs ++ runs_of inputs result.takes) lost) }
+    ensures unread { IsNone result.inputs → IsUnread words.now (S.faults store)
+        (S.faults result.store) (W.faults workspace.old) (W.faults workspace.new)
+        (S.content store) (S.content result.store) result.reply result.takes }
+    ensures inputs { IfSome result.inputs
+        (IsRecordOf words.now environment.now moment (W.content workspace.old)) }
+    ensures answer { IfSome result.inputs (λ inputs. IsAnswerTo words.now inputs
+        (S.faults store) (S.faults result.store) (S.content store) (S.content result.store)
+        result.reply result.takes) }
+    ensures stands { StandsForMoreIfRead result.inputs result.takes
+        (S.content store) (S.content result.store) }
     ensures workspace { W.content workspace.new ≡ W.content workspace.old }
     ensures store_later { S.faults store ≤ S.faults result.store }
     ensures workspace_later { W.faults workspace.old ≤ W.faults workspace.new }
@@ -249,7 +269,8 @@ fn answer_words<S: Store, W: Workspace>(
 
 // Writes the text, and gives the status, or 7 where the sink failed.
 fn send_all<K: Sink>(sink: &mut K, text: &[u8], status: u8) -> u8
-    ensures sent { ((result ≡ status) × Got (K.got sink.old) (K.got sink.new) text.now) ⊎ ((result ≡ 7) × Rose (K.faults sink.old) (K.faults sink.new) × ((n : ℕ) × Got (K.got sink.old) (K.got sink.new) (take n text.now))) }
+    ensures sent { IsSent result status (K.got sink.old) (K.got sink.new)
+        (K.faults sink.old) (K.faults sink.new) text.now }
     ensures later { K.faults sink.old ≤ K.faults sink.new }
     ensures kept { K.kept sink.new ≡ K.kept sink.old }
     ensures plan { K.plan sink.new ≡ K.plan sink.old }
@@ -271,7 +292,8 @@ fn show<K: Sink>(
     reply: Reply,
 ) -> (u8, Reply)
     ensures reply { IsUnlessMemory result.1 reply }
-    ensures shown { Shown (K.got sink.old) (K.got sink.new) (printed explains takes.now result.1) result.1 result.0 }
+    ensures shown { Shown (K.got sink.old) (K.got sink.new)
+        (printed explains takes.now result.1) result.1 result.0 }
     ensures fault { result.0 ≡ 7 → Rose (K.faults sink.old) (K.faults sink.new) }
     ensures later { K.faults sink.old ≤ K.faults sink.new }
     ensures kept { K.kept sink.new ≡ K.kept sink.old }
@@ -297,7 +319,8 @@ pub fn refuse<K: Sink>(alloc: Global, mut sink: K, reply: Reply) -> Refused<K>
 
     // The sink has the reply's line behind what it had, and the status is the reply's; or a front part of it, and the
     // status is 7, only where the sink's count rose.
-    ensures shown { Shown (K.got sink) (K.got result.sink) (printed false [] result.reply) result.reply result.status }
+    ensures shown { Shown (K.got sink) (K.got result.sink)
+        (printed false [] result.reply) result.reply result.status }
     ensures sink_fault { result.status ≡ 7 → Rose (K.faults sink) (K.faults result.sink) }
     ensures later { K.faults sink ≤ K.faults result.sink }
     ensures kept { K.kept result.sink ≡ K.kept sink }
@@ -338,9 +361,12 @@ pub fn mill_one<S: Store, W: Workspace, K: Sink>(
         (device (W.content workspace) (W.faults workspace) (W.kept workspace) (W.plan workspace))
         (device (K.got sink) (K.faults sink) (K.kept sink) (K.plan sink)))
         (devices
-        (device (S.content result.store) (S.faults result.store) (S.kept result.store) (S.plan result.store))
-        (device (W.content result.workspace) (W.faults result.workspace) (W.kept result.workspace) (W.plan result.workspace))
-        (device (K.got result.sink) (K.faults result.sink) (K.kept result.sink) (K.plan result.sink)))
+        (device (S.content result.store) (S.faults result.store)
+        (S.kept result.store) (S.plan result.store))
+        (device (W.content result.workspace) (W.faults result.workspace)
+        (W.kept result.workspace) (W.plan result.workspace))
+        (device (K.got result.sink) (K.faults result.sink)
+        (K.kept result.sink) (K.plan result.sink)))
         (command result.inputs result.takes result.reply result.status) }
 {
     let Answer {
