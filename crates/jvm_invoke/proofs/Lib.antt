@@ -1,1 +1,5 @@
 pub mod LetterLemmas
+pub mod Stacked
+pub mod Handled
+pub mod Laid
+pub mod Tried
